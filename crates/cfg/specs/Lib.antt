@@ -1,0 +1,10 @@
+pub mod Grammar
+pub mod Reading
+pub mod Number
+pub mod Written
+pub mod Words
+pub mod Table
+pub mod Marks
+pub mod Closure
+pub mod Corners
+pub mod Accept
