@@ -19,3 +19,8 @@ pub mod Rounds
 pub mod Tests
 pub mod Meaning
 pub mod Sizes
+pub mod Numbers
+pub mod RoundTrip
+pub mod Questions
+pub mod TableQuestions
+pub mod Exactly

@@ -47,7 +47,7 @@ pub both : (a b : Bool) → (a && b) ≡ true → (a ≡ true) × (b ≡ true)
 both true b e = (refl, e)
 both false b e = (e, absurd (let z : _≡_ {A = ℕ} 0 1 = cc in omega arith))
 
-symbol-ranged : (n t c : ℕ) (ss : List Sym) → isSymbol n t c ≡ true → AllInRange (sized n t) ss → AllInRange (sized n t) (symbolOf c ∷ ss)
+pub symbol-ranged : (n t c : ℕ) (ss : List Sym) → isSymbol n t c ≡ true → AllInRange (sized n t) ss → AllInRange (sized n t) (symbolOf c ∷ ss)
 symbol-ranged n t c ss e w = go (eqb (c % 2) 0) refl e
   where
     go : (b : Bool) → eqb (c % 2) 0 ≡ b → pick b (ltb (c / 2) n) (leb 5 (c / 2) && leb (c / 2) (t + 4)) ≡ true

@@ -8,3 +8,5 @@ pub mod Marks
 pub mod Closure
 pub mod Corners
 pub mod Accept
+pub mod Write
+pub mod Refused
