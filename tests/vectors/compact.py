@@ -1,0 +1,87 @@
+#!/usr/bin/env python3
+"""Turns a file of vectors into what a replaying program reads and what it must print.
+
+  compact.py VECTORS STDIN STDOUT
+
+VECTORS has a row a line: operation | arguments | answer, its first line names the columns. STDIN gets a case a line, all numbers in hexadecimal:
+
+  strings   width M, eps M, end M, make K M TERMINAL.., unpack LO HI, complete K LO HI, cut K LO HI, push LO HI X, order LO HI LO HI, join K LO HI LO HI
+  sets      union, intersection, join: K ROOM | first | second;  disjoint: K | first | second;  complete: K | set
+
+STDOUT gets the row's answer as it stands. Nothing here works an answer out: the width of a case `width M` is read off the answer to `eps M` or `end M`.
+Rows are left out that speak of a later request, and lists with a number that a terminal's type cannot hold; how many is printed.
+"""
+import sys
+from collections import Counter
+
+LATER = {"make_k2", "push_k2", "complete_k5"}
+
+
+def cells(row):
+    return [cell.strip() for cell in row.split("|")]
+
+
+def numbers(cell, base):
+    return [] if cell == "-" else [int(x, base) for x in cell.split(",")]
+
+
+def line(*parts):
+    return " ".join(x if isinstance(x, str) else "%x" % x for x in parts)
+
+
+def string_case(op, args):
+    if op in ("eps", "end"):
+        return line(op, int(args[0]))
+    if op == "make":
+        return line(op, int(args[0]), int(args[1]), *numbers(args[2], 10))
+    if op in ("complete", "cut", "join"):
+        return line(op, int(args[0]), *(w for a in args[1:] for w in numbers(a, 16)))
+    if op == "push":
+        return line(op, *numbers(args[0], 16), int(args[1]))
+    return line(op, *(w for a in args for w in numbers(a, 16)))
+
+
+def set_case(op, args):
+    k, first, second, room = args
+    head = [int(k)] if room == "-" else [int(k), int(room)]
+    sets = ["|", *numbers(first, 16)]
+    if op != "complete":
+        sets += ["|", *numbers(second, 16)]
+    return line(op, *head, *sets)
+
+
+def width_cases(rows):
+    """The widths that the answers to eps and end carry, each once."""
+    seen = {}
+    for op, *args, answer in rows:
+        if op in ("eps", "end"):
+            seen.setdefault(int(args[0]), answer if answer.startswith("refused") else str(int(answer.split(",")[1], 16) >> 60))
+    return [(line("width", m), seen[m]) for m in sorted(seen)]
+
+
+def main(vectors, stdin, stdout):
+    with open(vectors, encoding="ascii") as f:
+        header, *rows = [cells(row) for row in f if row.strip()]
+    of_sets = header[1] == "k"
+    out, left = [], Counter()
+    for op, *args, answer in rows:
+        if op in LATER:
+            left["of a later request (%s)" % op] += 1
+        elif op == "make" and any(x > 65535 for x in numbers(args[2], 10)):
+            left["with a terminal over 65,535 in a made list"] += 1
+        else:
+            out.append(((set_case if of_sets else string_case)(op, args), answer))
+    widths = [] if of_sets else width_cases(rows)
+    with open(stdin, "w", encoding="ascii") as f:
+        f.writelines(case + "\n" for case, _ in out + widths)
+    with open(stdout, "w", encoding="ascii") as f:
+        f.writelines(answer + "\n" for _, answer in out + widths)
+    print("%d rows, %d run, %d widths read off them" % (len(rows), len(out), len(widths)))
+    for why, n in sorted(left.items()):
+        print("%d left out: %s" % (n, why))
+
+
+if __name__ == "__main__":
+    if len(sys.argv) != 4:
+        sys.exit(__doc__)
+    main(*sys.argv[1:])
