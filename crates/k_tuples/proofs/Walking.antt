@@ -1,0 +1,87 @@
+-- A loop that asks something of the members of a set, one after the other, until one decides. Its invariant is `Asking`: the members that are left
+-- have the answer that all have. Likewise `Matching`, for two sets member by member. Assumes nothing.
+use mathlib.Core.Path.{_≡_, refl, sym, ap, ap₂, _∙_}
+use mathlib.Core.Bool.{Bool, true, false, cond, not, _&&_}
+use mathlib.Core.List.{List, [], _∷_}
+use Prim.Native.Nat.{ℕ, _+_, _*_, _≤_, _<_}
+use lib.ListN.{length, drop}
+use Rattle.k_tuple.specs.declared.Terminals.{Terminals}
+use Rattle.k_tuple.specs.Packed.{reads, completeIn}
+use Rattle.k_tuples.specs.Members.{sameMember, sameMembers, hasOf, noneOf, completeAll}
+use Rattle.k_tuples.specs.Words.{memberAt, decode}
+use Rattle.k_tuples.proofs.Rising.{same-length}
+use Rattle.k_tuples.proofs.Words.{next-member, none-left}
+
+-- ---- one set
+
+-- what is asked of each member, which answers end the loop, and the answer of a list
+pub record Question : Type 0 where
+  pub asked : Terminals → Bool
+  pub ends : Bool → Bool
+  pub all : List Terminals → Bool
+  pub none : all [] ≡ true
+  pub more : (x : Terminals) (xs : List Terminals) → all (x ∷ xs) ≡ cond (ends (asked x)) false (all xs)
+
+pub stops-if : (t u : Bool) → (not t && u) ≡ cond t false u
+stops-if true u = refl
+stops-if false u = refl
+
+pub stops-unless : (t u : Bool) → (t && u) ≡ cond (not t) false u
+stops-unless true u = refl
+stops-unless false u = refl
+
+-- whether none is in the set ms; whether all are complete at k
+abbrev pub none-in : List Terminals → Question
+none-in ms = record { asked = λ x. hasOf x ms; ends = λ b. b; all = λ xs. noneOf xs ms; none = refl; more = λ x xs. stops-if (hasOf x ms) (noneOf xs ms) }
+
+abbrev pub complete-at : ℕ → Question
+complete-at k = record { asked = λ x. completeIn k (reads x); ends = not; all = completeAll k; none = refl; more = λ x xs. stops-unless (completeIn k (reads x)) (completeAll k xs) }
+
+-- at member i of n
+pub record Asking (Q : Question) (src : List ℕ) (answer : Bool) (n i : ℕ) : Type 0 where
+  pub counted : n ≡ length (decode src)
+  pub left : answer ≡ Q .all (drop i (decode src))
+
+pub ask-start : {src : List ℕ} {n : ℕ} (Q : Question) → n ≡ length (decode src) → Asking Q src (Q .all (decode src)) n 0
+ask-start Q e = record { counted = e; left = refl }
+
+module _ {Q : Question} {src : List ℕ} {answer b : Bool} {n i : ℕ} {x : Terminals} (a : Asking Q src answer n i) (turn : i < n) (at : x ≡ memberAt src (2 * i + 1)) (told : b ≡ Q .asked x) where
+  decides : answer ≡ cond (Q .ends b) false (Q .all (drop (i + 1) (decode src)))
+  decides = a .left ∙ ap (Q .all) (next-member src (a .counted) turn at) ∙ Q .more x (drop (i + 1) (decode src)) ∙ rw told
+
+  pub ask-more : Q .ends b ≡ false → Asking Q src answer n (i + 1)
+  ask-more t = record { counted = a .counted; left = decides ∙ rw t }
+
+  pub ask-ended : Q .ends b ≡ true → false ≡ answer
+  ask-ended t = sym (decides ∙ rw t)
+
+pub ask-done : {Q : Question} {src : List ℕ} {answer : Bool} {n i : ℕ} → Asking Q src answer n i → n ≤ i → true ≡ answer
+ask-done {Q} {src} a h = sym (a .left ∙ ap (Q .all) (none-left src (a .counted) h) ∙ Q .none)
+
+-- ---- two sets
+
+pub record Matching (a b : List ℕ) (answer : Bool) (n i : ℕ) : Type 0 where
+  pub counted : n ≡ length (decode a)
+  pub as-many : n ≡ length (decode b)
+  pub left : answer ≡ sameMembers (drop i (decode a)) (drop i (decode b))
+
+pub match-not : {n m : ℕ} (a b : List ℕ) → n ≡ length (decode a) → m ≡ length (decode b) → (m ≡ n → ⊥) → false ≡ sameMembers (decode a) (decode b)
+match-not a b e f h = sym (same-length (decode a) (decode b) (λ s. h (f ∙ sym s ∙ sym e)))
+
+pub match-start : {n m : ℕ} {a b : List ℕ} → n ≡ length (decode a) → m ≡ length (decode b) → m ≡ n → Matching a b (sameMembers (decode a) (decode b)) n 0
+match-start e f s = record { counted = e; as-many = sym s ∙ f; left = refl }
+
+module _ {a b : List ℕ} {answer t : Bool} {n i : ℕ} {x y : Terminals} (m : Matching a b answer n i) (turn : i < n) (at : x ≡ memberAt a (2 * i + 1)) (by : y ≡ memberAt b (2 * i + 1)) (told : t ≡ sameMember x y) where
+  matches : answer ≡ (t && sameMembers (drop (i + 1) (decode a)) (drop (i + 1) (decode b)))
+  unfolding sameMembers
+  matches = m .left ∙ ap₂ sameMembers (next-member a (m .counted) turn at) (next-member b (m .as-many) turn by) ∙ rw told
+
+  pub match-more : t ≡ true → Matching a b answer n (i + 1)
+  match-more e = record { counted = m .counted; as-many = m .as-many; left = matches ∙ rw e }
+
+  pub match-ended : t ≡ false → false ≡ answer
+  match-ended e = sym (matches ∙ rw e)
+
+pub match-done : {a b : List ℕ} {answer : Bool} {n i : ℕ} → Matching a b answer n i → n ≤ i → true ≡ answer
+unfolding sameMembers
+match-done {a} {b} m h = sym (m .left ∙ ap₂ sameMembers (none-left a (m .counted) h) (none-left b (m .as-many) h))

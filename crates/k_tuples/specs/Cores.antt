@@ -1,0 +1,30 @@
+-- The vocabulary of the inner functions of src/set.rt: where a member goes, which words are used, what a loop tells. No public promise names any of it. Assumes nothing.
+use mathlib.Core.Path.{_≡_}
+use mathlib.Core.Bool.{true, cond}
+use mathlib.Core.List.{List, _∷_, _++_}
+use Prim.Native.Nat.{ℕ, _+_, _*_, _≤_, _<_}
+use lib.ListN.{length, getD, take, drop, replicate}
+use lib.Seq.{slice}
+use Rattle.k_tuple.specs.declared.Terminals.{Terminals}
+use Rattle.k_tuple.specs.Packed.{lessOf}
+use Rattle.k_tuples.specs.declared.set.Grown.{Grown}
+use Rattle.k_tuples.specs.Members.{rank}
+use Rattle.k_tuples.specs.Words.{memberAt, decode, isFull}
+
+-- the words that a set uses: the count and the members
+pub record Used (ws : List ℕ) (n : ℕ) : Type 0 where
+  pub is : n ≡ 2 * getD ws 0 0 + 1
+  pub within : n ≤ length ws
+
+-- x belongs at place p of a set, and does not stand there
+pub record Absent (x : Terminals) (ws : List ℕ) (p : ℕ) : Type 0 where
+  pub place : p ≡ rank x (decode ws)
+  pub differs : p < length (decode ws) → lessOf x (memberAt ws (2 * p + 1)) ≡ true
+
+-- words with the member x put in at index a, the words from a to e moved up by two, and the two after them lost
+unfoldable pub withGap : ℕ → ℕ → Terminals → List ℕ → List ℕ
+withGap a e x ws = take a ws ++ x .lo ∷ x .hi ∷ slice a e ws ++ drop (e + 2) ws
+
+-- zeros instead of words that did not take the set
+abbrev pub orZeros : Grown → List ℕ → List ℕ
+orZeros g ws = cond (isFull g) (replicate (length ws) 0) ws
