@@ -1,0 +1,132 @@
+-- Words that are cut into blocks, a set in each: what a call needs of them, and what they hold after it. Where a call's answer and words are the
+-- same whatever k and the width are, its promise holds for all of them, and a caller says which. Assumes nothing.
+use mathlib.Core.Path.{_≡_}
+use mathlib.Core.Bool.{Bool}
+use mathlib.Core.List.{List, [], _∷_, _++_}
+use mathlib.Core.Logic.{_≢_}
+use Prim.Native.Nat.{ℕ, _*_, _≤_}
+use lib.ListN.{length, take, drop, set, replicate}
+use Rattle.k_tuple.specs.Strings.{Str}
+use Rattle.k_tuple.specs.Packed.{packed}
+use Rattle.k_tuple.specs.declared.Terminals.{Terminals}
+use Rattle.k_tuples.specs.Sets.{union, joinSets}
+use Rattle.k_tuples.specs.States.{State, setOf, sameSets}
+use Rattle.k_tuples.specs.Words.{roomOf, grown}
+use Rattle.k_tuples.specs.Held.{setWords, Fits, Holds}
+use Rattle.k_tuples.specs.Blocks.{Stored, setsIn, IsStored, Stepped}
+use Rattle.k_tuples.specs.declared.set.Grown.{Grown}
+
+-- ---- what a call needs
+
+-- words of m sets
+pub record Sets (b m : ℕ) (ws : List ℕ) : Type 0 where
+  pub k : ℕ
+  pub width : ℕ
+  pub store : IsStored k width b m ws
+
+-- words of m sets, and others of l
+pub record Both (b m l : ℕ) (ws vs : List ℕ) : Type 0 where
+  pub k : ℕ
+  pub width : ℕ
+  pub first : IsStored k width b m ws
+  pub second : IsStored k width b l vs
+
+-- words of m sets, and a set beside them
+pub record WithOne (b m : ℕ) (ws xs : List ℕ) : Type 0 where
+  pub k : ℕ
+  pub width : ℕ
+  pub x : List Str
+  pub store : IsStored k width b m ws
+  pub one : Holds k width x xs
+
+-- words of m sets, and two sets beside them to join at k
+pub record WithTwo (k b m : ℕ) (ws xs ys : List ℕ) : Type 0 where
+  pub width : ℕ
+  pub x : List Str
+  pub y : List Str
+  pub some : 1 ≤ k
+  pub short : k ≤ 10
+  pub store : IsStored k width b m ws
+  pub first : Holds k width x xs
+  pub second : Holds k width y ys
+
+-- words of m sets, and a string to put into one of them
+pub record WithString (b m : ℕ) (t : Terminals) (ws : List ℕ) : Type 0 where
+  pub k : ℕ
+  pub width : ℕ
+  pub z : Str
+  pub store : IsStored k width b m ws
+  pub is : t ≡ packed width z
+  pub fits : Fits k width z
+
+-- ---- what the words hold after it
+
+-- the words have come to hold these m sets; what lies past them is as it was
+pub record Turned (k w b m : ℕ) (F : State) (ws ws′ : List ℕ) : Type 0 where
+  pub count : length F ≡ m
+  pub held : Stored k w b F (drop (m * b) ws) ws′
+
+-- set i of m, which had `old` members, has become `new`, if there is room for it, and r tells
+pub record Filled (k w b m i old : ℕ) (new : List Str) (r : Grown) (ws ws′ : List ℕ) : Type 0 where
+  pub answer : r ≡ grown (roomOf b) old (length new)
+  pub step : Stepped k w b m i new ws ws′
+
+-- set i is the join of two sets
+pub record Joined (k b m i : ℕ) (r : Grown) (xs ys ws ws′ : List ℕ) : Type 0 where
+  pub step : (w : ℕ) (x y : List Str) → IsStored k w b m ws → Holds k w x xs → Holds k w y ys → Filled k w b m i 0 (joinSets k x y) r ws ws′
+
+-- the join of two sets has been added to set i
+pub record JoinAdded (k b m i : ℕ) (r : Grown) (xs ys ws ws′ : List ℕ) : Type 0 where
+  pub step : (w : ℕ) (x y : List Str) → IsStored k w b m ws → Holds k w x xs → Holds k w y ys → let old = setOf (setsIn b m ws) i in
+      Filled k w b m i (length old) (union old (joinSets k x y)) r ws ws′
+
+-- a set has been added to set i
+pub record United (b m i : ℕ) (r : Grown) (xs ws ws′ : List ℕ) : Type 0 where
+  pub step : (k w : ℕ) (x : List Str) → IsStored k w b m ws → Holds k w x xs → let old = setOf (setsIn b m ws) i in
+      Filled k w b m i (length old) (union old x) r ws ws′
+
+-- set `from` of other words, of l sets, has been added to set `to`
+pub record UnitedBlock (b m l from to : ℕ) (r : Grown) (vs ws ws′ : List ℕ) : Type 0 where
+  pub step : (k w : ℕ) → IsStored k w b m ws → IsStored k w b l vs → let old = setOf (setsIn b m ws) to in
+      Filled k w b m to (length old) (union old (setOf (setsIn b l vs) from)) r ws ws′
+
+-- set i is a copy of a set
+pub record Copied (b m i : ℕ) (xs ws ws′ : List ℕ) : Type 0 where
+  pub step : (k w : ℕ) (x : List Str) → IsStored k w b m ws → Holds k w x xs → Turned k w b m (set (setsIn b m ws) i x) ws ws′
+
+-- set `to` is a copy of set `from` of other words, of l sets
+pub record CopiedBlock (b m l from to : ℕ) (vs ws ws′ : List ℕ) : Type 0 where
+  pub step : (k w : ℕ) → IsStored k w b m ws → IsStored k w b l vs → Turned k w b m (set (setsIn b m ws) to (setOf (setsIn b l vs) from)) ws ws′
+
+-- set i is empty
+pub record Emptied (b m i : ℕ) (ws ws′ : List ℕ) : Type 0 where
+  pub step : (k w : ℕ) → IsStored k w b m ws → Turned k w b m (set (setsIn b m ws) i []) ws ws′
+
+-- three words are the set of one string, whatever its width is
+pub record Only (t : Terminals) (ws : List ℕ) : Type 0 where
+  pub words : (w : ℕ) (z : Str) → t ≡ packed w z → ws ≡ setWords 3 w (z ∷ [])
+
+-- set i is the set of one string
+pub record PutSingle (b m i : ℕ) (t : Terminals) (ws ws′ : List ℕ) : Type 0 where
+  pub step : (k w : ℕ) (z : Str) → IsStored k w b m ws → t ≡ packed w z → Fits k w z → Turned k w b m (set (setsIn b m ws) i (z ∷ [])) ws ws′
+
+-- the first n sets are empty
+pub record EmptiedFirst (b m n : ℕ) (ws ws′ : List ℕ) : Type 0 where
+  pub step : (k w : ℕ) → IsStored k w b m ws → Turned k w b m (replicate n [] ++ drop n (setsIn b m ws)) ws ws′
+
+-- the first n sets are those of other words, of l sets
+pub record CopiedFirst (b m l n : ℕ) (vs ws ws′ : List ℕ) : Type 0 where
+  pub step : (k w : ℕ) → IsStored k w b m ws → IsStored k w b l vs → Turned k w b m (take n (setsIn b l vs) ++ drop n (setsIn b m ws)) ws ws′
+
+-- whether the first n sets of both words are the same
+pub record ComparedFirst (b m l n : ℕ) (r : Bool) (ws vs : List ℕ) : Type 0 where
+  pub step : (k w : ℕ) → IsStored k w b m ws → IsStored k w b l vs → r ≡ sameSets (take n (setsIn b m ws)) (take n (setsIn b l vs))
+
+-- ---- the first sets
+
+-- the first n sets have become these, set `free` anything; the other sets are as they were, and so is what lies past them
+pub record Front (k w b m n free : ℕ) (F : State) (ws ws′ : List ℕ) : Type 0 where
+  pub store : IsStored k w b m ws′
+  pub front : take n (setsIn b m ws′) ≡ F
+  pub others : (i : ℕ) → n ≤ i → i ≢ free → setOf (setsIn b m ws′) i ≡ setOf (setsIn b m ws) i
+  pub beyond : drop (m * b) ws′ ≡ drop (m * b) ws

@@ -1,0 +1,10 @@
+pub mod Asking
+pub mod Calls
+pub mod Running
+pub mod Beginning
+pub mod Tables
+pub mod Needed
+pub mod Wiping
+pub mod Got
+pub mod Sets
+pub mod Asked

@@ -1,0 +1,4 @@
+pub mod Ask
+pub mod Call
+pub mod Steps
+pub mod Runs

@@ -1,0 +1,7 @@
+pub mod Codes
+pub mod Spelling
+pub mod Walk
+pub mod Passing
+pub mod Rounds
+pub mod Levels
+pub mod Products

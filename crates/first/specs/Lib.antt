@@ -1,0 +1,4 @@
+pub mod Codes
+pub mod Steps
+pub mod Rounds
+pub mod Levels

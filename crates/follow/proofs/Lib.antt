@@ -1,0 +1,14 @@
+pub mod Suffixes
+pub mod Growing
+pub mod Seeking
+pub mod Zones
+pub mod Passes
+pub mod Standing
+pub mod Way
+pub mod Rounding
+pub mod Climbing
+pub mod Starting
+pub mod Passing
+pub mod Suffixing
+pub mod Positioning
+pub mod Composed

@@ -1,0 +1,4 @@
+pub mod Suffixes
+pub mod Walk
+pub mod Steps
+pub mod Whole
