@@ -1,19 +1,19 @@
 -- Every set of an analysis has room, is in order and has members that fit at its width: so each can be kept in a block of 2c + 1 words. Assumes nothing.
-use Prim.Native.Nat.{ℕ, zero, suc, _+_, _*_, _≤_, _<_}
+use Prim.Native.Nat.{ℕ, zero, suc, _*_, _≤_}
 use native.Mathlib.Omega.{arith}
-use mathlib.Core.Path.{_≡_, refl, sym, ap, subst}
+use mathlib.Core.Path.{_≡_, refl, subst}
 use mathlib.Core.Bool.{Bool, true, false, cond}
-use mathlib.Core.List.{List, [], _∷_, _++_}
+use mathlib.Core.List.{List, [], _∷_}
 use borrow.Author.Tests.{leb-true}
 use lib.ListN.{length, replicate, set}
 use lib.Dec.{leb}
-use Rattle.cfg.specs.Grammar.{Sym, Grammar, Production, Accepted}
+use Rattle.cfg.specs.Grammar.{Sym, Grammar, Production}
 use Rattle.k_tuple.specs.Strings.{Str, eps}
 use Rattle.k_tuples.specs.States.{State, setOf}
 use Rattle.k_tuples.specs.Work.{Answer, refused, got, _>>=_, within, Settling, settle}
 use Rattle.k_tuples.specs.States.{sameSets}
 use Rattle.k_tuples.proofs.States.{set-all}
-use Rattle.first_theory.specs.Compute.{Worked, rightSide, joinParts, roundFrom, round, level, levels, first, productionSets, partSet}
+use Rattle.first_theory.specs.Compute.{Worked, rightSide, joinParts, roundFrom, round, level, levels, first, productionSets}
 use Rattle.first_theory.specs.First.{Part, parts}
 use Rattle.follow_theory.specs.Equations.{start, marker}
 use Rattle.follow_theory.specs.Follow.{Occurrence, occurrencesOf, joinFor, takeOne, takeAll, positionSets, follow}

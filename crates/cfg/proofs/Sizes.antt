@@ -1,17 +1,16 @@
 -- A grammar that is read has at most 512 productions and at most 4,096 nonterminal occurrences. Assumes nothing.
 use Prim.Native.Nat.{ℕ, zero, suc, _+_, _*_, _-_, _≤_, min}
 use native.Mathlib.Nat.{min-le-left, min-le-right}
-use native.Mathlib.Numerals.{add-one}
 use native.Mathlib.Omega.{arith}
-use mathlib.Core.Path.{_≡_, refl, sym, ap, _∙_, subst}
+use mathlib.Core.Path.{_≡_, refl, ap, _∙_, subst}
 use mathlib.Core.List.{List, [], _∷_, _++_, map}
 use lib.ListN.{length, getD, take, drop, length-append, length-drop, length-take, length-map}
 use lib.Dec.{eqb}
-use Rattle.cfg.specs.Grammar.{Sym, nonterminal, terminal, Grammar, Production}
-use Rattle.cfg.specs.Reading.{Reading, got}
+use Rattle.cfg.specs.Grammar.{Sym, nonterminal, terminal, Grammar}
+use Rattle.cfg.specs.Reading.{got}
 use Rattle.cfg.specs.Written.{symbolOf, productionsOf, nonterminals, occurrences}
 use Rattle.cfg.specs.Words.{Sound}
-use Rattle.cfg.specs.Table.{field, header, symbols, production, productions, readTable, grammarOf}
+use Rattle.cfg.specs.Table.{field, header, production, productions, readTable, grammarOf}
 use Rattle.cfg.specs.Accept.{testRefusal, acceptTable}
 use Rattle.cfg.proofs.Field.{field-got-most}
 use Rattle.cfg.proofs.Sound.{then-inverse, pick-inverse, Symbols, symbols-sound, productions-sound}

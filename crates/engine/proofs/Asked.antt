@@ -1,31 +1,28 @@
 -- After a call that was not refused, asking for a set gives the words of that set. Assumes nothing.
 use Prim.Native.Nat.{ℕ, zero, suc, _+_, _*_, _≤_, _<_}
-use native.Mathlib.Nat.{suc-mul}
 use native.Mathlib.Omega.{arith}
-use mathlib.Core.Path.{_≡_, refl, sym, ap, subst, _∙_}
-use mathlib.Core.Bool.{Bool, true, false, cond, _&&_}
+use mathlib.Core.Path.{_≡_, refl, sym, ap, _∙_}
+use mathlib.Core.Bool.{Bool, true, false, cond}
 use mathlib.Core.List.{List, [], _∷_, _++_}
 use borrow.Author.Tests.{le-leb, lt-ltb}
-use lib.Dec.{leb, ltb, eqb}
+use lib.Dec.{eqb}
 use lib.ListN.{length, drop, length-append}
 use lib.Seq.{getD-append-add}
-use Rattle.cfg.specs.Grammar.{Grammar, Production}
-use Rattle.cfg.proofs.Sizes.{Sizes, accepted-sizes}
+use Rattle.cfg.specs.Grammar.{Grammar}
+use Rattle.cfg.proofs.Sizes.{accepted-sizes}
 use Rattle.cfg.proofs.Meaning.{accepted}
-use Rattle.k_tuple.specs.Strings.{Str}
 use Rattle.k_tuples.specs.States.{State, setOf, Each, each-none, each-more}
 use Rattle.k_tuples.specs.Work.{got}
 use Rattle.k_tuples.specs.Held.{setWords}
 use Rattle.k_tuples.specs.Blocks.{store}
 use Rattle.k_tuples.proofs.Blocks.{length-store, block-store}
-use Rattle.follow_theory.specs.Follow.{occurrencesOf}
-use Rattle.analysis.specs.Analysis.{Analysis, analyse, resultNeeds}
+use Rattle.analysis.specs.Analysis.{Analysis, analyse}
 use Rattle.analysis.specs.Promises.{Analysed}
 use Rattle.analysis.proofs.Kept.{answers-right}
 use Rattle.analysis.proofs.Counts.{occurrences-count}
 use Rattle.engine.specs.Ask.{kindStart, kindCount, inLimits, resultSize, thereIs, setPart}
 use Rattle.engine.specs.Call.{setsOf, resultNeeded, resultAfter, ofKind}
-use Rattle.engine.proofs.Got.{Got, analyse-got}
+use Rattle.engine.proofs.Got.{analyse-got}
 use Rattle.engine.proofs.Sets.{sets-kept}
 use Rattle.engine.proofs.Asking.{place-inside}
 

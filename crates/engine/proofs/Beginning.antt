@@ -1,44 +1,43 @@
 -- The work from the start: buffers of zeros are ready for FIRST, and what is worked out then is the analysis. Assumes nothing.
-use Prim.Native.Nat.{ℕ, zero, suc, _+_, _*_, _-_, _/_, _≤_, _<_}
-use native.Mathlib.Nat.{div-eq-of-lt-le}
+use Prim.Native.Nat.{ℕ, zero, suc, _+_, _*_, _-_, _≤_}
 use native.Mathlib.Omega.{arith}
-use mathlib.Core.Path.{_≡_, refl, sym, ap, ap₂, _∙_, subst}
+use mathlib.Core.Path.{_≡_, refl, sym, ap, _∙_, subst}
 use mathlib.Core.List.{List, [], _∷_, _++_}
 use lib.ListN.{length, take, drop, replicate, take-append-drop}
 use Rattle.cfg.specs.Written.{productionsOf, occurrences}
 use Rattle.cfg.proofs.Sizes.{length-productions}
-use Rattle.k_tuple.specs.Strings.{places, ones, widthOf}
+use Rattle.k_tuple.specs.Strings.{places, widthOf}
 use Rattle.k_tuple.proofs.Binary.{width-holds, width-le, width-pos}
 use Rattle.k_tuples.specs.States.{State}
 use Rattle.k_tuples.specs.Words.{roomOf}
 use Rattle.k_tuples.specs.Work.{Answer, got, refused, _>>=_, Settling}
 use Rattle.k_tuples.specs.Blocks.{store}
 use Rattle.k_tuples.proofs.Work.{got-inj, not-got}
-use Rattle.first_theory.specs.Compute.{Worked, first, productionSets}
+use Rattle.first_theory.specs.Compute.{first, productionSets}
 use Rattle.follow_theory.specs.Follow.{occurrencesOf, follow, positionSets}
 use Rattle.analysis.specs.Analysis.{Analysis, work, resultNeeds, scratchNeeds}
 use Rattle.analysis.proofs.Counts.{occurrences-count}
 use Rattle.analysis.proofs.Kept.{answers-right}
 use Rattle.first.specs.declared.Setup.{Setup}
 use Rattle.first.specs.declared.level.LevelRounds.{LevelRounds}
-use Rattle.first.specs.Steps.{oldSets, pastResult, pastScratch, room, Free}
+use Rattle.first.specs.Steps.{oldSets, room, Free}
 use Rattle.first.specs.Steps as Steps
 use Rattle.first.specs.Rounds.{Rules}
 use Rattle.first.specs.Rounds as Rounds
-use Rattle.first.specs.Levels.{LevelsDone, LevelsRun}
+use Rattle.first.specs.Levels.{LevelsRun}
 use Rattle.first.proofs.Walk.{zeros-ready}
 use Rattle.first.proofs.Levels.{moved-ready}
 use Rattle.engine.specs.declared.Lookahead.{Lookahead}
 use Rattle.engine.specs.declared.Shape.{Shape}
 use Rattle.engine.specs.Call.{answerOf, setsOf, wiped}
 use Rattle.engine.specs.Steps.{grammarIn, Ready, Clean, Ran}
-use Rattle.engine.specs.Runs.{setupOf, finished, Begun, Rest, restOf, restAnswer, restFor, RestRan}
+use Rattle.engine.specs.Runs.{setupOf, finished, Begun, Rest, restOf, restFor, RestRan}
 use Rattle.engine.proofs.Needed.{productions-few}
 
 pub room-is : (c : ℕ) → roomOf (2 * c + 1) ≡ c
 room-is c = omega arith
 
-places-padded : (n : ℕ) (xs : List ℕ) → length xs ≤ n → places n xs ≡ xs ++ replicate (n - length xs) 0
+pub places-padded : (n : ℕ) (xs : List ℕ) → length xs ≤ n → places n xs ≡ xs ++ replicate (n - length xs) 0
 places-padded zero [] h = refl
 places-padded zero (x ∷ xs) h = absurd (omega arith)
 places-padded (suc n) [] h = let e : suc n - 0 ≡ suc n = omega arith in ap (λ (l : List ℕ). 0 ∷ l) (places-padded n [] (omega arith)) ∙ rw e (let f : n - 0 ≡ n = omega arith in rw f)

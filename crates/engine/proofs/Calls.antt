@@ -1,11 +1,11 @@
 -- The call's ways out: what each test says of the analysis, and so of the answer and the lent words. Assumes nothing.
 use Prim.Native.Nat.{ℕ, _≤_, _<_}
 use native.Mathlib.Omega.{arith}
-use mathlib.Core.Path.{_≡_, refl, sym, ap, _∙_, subst}
-use mathlib.Core.Bool.{Bool, true, false, cond, _&&_}
+use mathlib.Core.Path.{_≡_, refl, sym, subst}
+use mathlib.Core.Bool.{Bool, true, false}
 use mathlib.Core.List.{List}
-use borrow.Author.Tests.{le-leb, lt-leb, eqb-true, ne-eqb}
-use lib.Dec.{leb, eqb}
+use borrow.Author.Tests.{le-leb, lt-leb}
+use lib.Dec.{eqb}
 use lib.ListN.{length}
 use Rattle.cfg.specs.Grammar.{Grammar}
 use Rattle.cfg.specs.Reading.{Reading, pick, _then_, got as read, refused as unread}
@@ -14,8 +14,8 @@ use Rattle.cfg.specs.Accept.{testRefusal, acceptTable}
 use Rattle.cfg.proofs.Field.{got-refused}
 use Rattle.cfg.proofs.Refusals.{table-refusals}
 use Rattle.cfg.proofs.Meaning.{TableRead, table-read, Tested, unproductive-eight, left-recursive-nine, passed-none, tested}
-use Rattle.k_tuples.specs.Work.{Answer, got, refused}
-use Rattle.analysis.specs.Analysis.{Analysis, analyse, work, resultNeeds, scratchNeeds}
+use Rattle.k_tuples.specs.Work.{Answer, refused}
+use Rattle.analysis.specs.Analysis.{Analysis, analyse, resultNeeds, scratchNeeds}
 use Rattle.engine.specs.declared.Lookahead.{Lookahead}
 use Rattle.engine.specs.Call.{answerOf, resultNeeded, scratchNeeded, resultAfter, scratchAfter, Left, Promised}
 use Rattle.engine.specs.Steps.{onGrammar, Worked, Asked}

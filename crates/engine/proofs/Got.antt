@@ -1,6 +1,5 @@
 -- What an analysis that was got tells of its input. Assumes nothing.
 use Prim.Native.Nat.{ℕ, _≤_}
-use native.Mathlib.Omega.{arith}
 use mathlib.Core.Path.{_≡_, refl}
 use mathlib.Core.Bool.{Bool, true, false, _&&_}
 use mathlib.Core.List.{List}
@@ -9,7 +8,7 @@ use lib.Dec.{leb}
 use Rattle.cfg.specs.Grammar.{Grammar}
 use Rattle.cfg.specs.Reading.{Reading, got as read, refused as unread}
 use Rattle.cfg.specs.Accept.{acceptTable}
-use Rattle.k_tuples.specs.Work.{Answer, got, refused, _>>=_, _>>_, demand}
+use Rattle.k_tuples.specs.Work.{Answer, got, _>>=_, _>>_, demand}
 use Rattle.k_tuples.proofs.Work.{not-got}
 use Rattle.analysis.specs.Analysis.{Analysis, work, accepts, analyse, resultNeeds, scratchNeeds}
 use Rattle.engine.proofs.Asking.{both}

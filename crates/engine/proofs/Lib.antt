@@ -8,3 +8,4 @@ pub mod Wiping
 pub mod Got
 pub mod Sets
 pub mod Asked
+pub mod Demands

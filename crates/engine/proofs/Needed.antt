@@ -1,14 +1,12 @@
 -- How many words an accepted grammar needs. Assumes nothing.
 use Prim.Native.Nat.{ℕ, _+_, _*_, _≤_}
 use native.Mathlib.Omega.{arith}
-use mathlib.Core.Path.{_≡_, refl, sym, ap, _∙_}
+use mathlib.Core.Path.{_≡_, _∙_}
 use mathlib.Core.List.{List}
-use lib.ListN.{length}
 use Rattle.cfg.specs.Written.{productionsOf, occurrences}
 use Rattle.cfg.specs.Words.{Sound}
 use Rattle.cfg.proofs.Sizes.{length-productions}
 use Rattle.cfg.proofs.Tests.{sound-wider}
-use Rattle.follow_theory.specs.Follow.{occurrencesOf}
 use Rattle.analysis.specs.Analysis.{resultNeeds}
 use Rattle.analysis.proofs.Counts.{occurrences-count}
 use Rattle.engine.specs.declared.Shape.{Shape}

@@ -1,33 +1,32 @@
 -- The work behind FIRST of the nonterminals, put together from its steps. Assumes nothing.
-use Prim.Native.Nat.{ℕ, _+_, _*_, _-_, _≤_}
+use Prim.Native.Nat.{ℕ, _+_, _*_, _≤_}
 use native.Mathlib.Omega.{arith}
-use mathlib.Core.Path.{_≡_, refl, sym, ap, ap₂, _∙_, subst}
+use mathlib.Core.Path.{_≡_, sym, ap, ap₂, _∙_, subst}
 use mathlib.Core.Bool.{Bool, true, false}
-use mathlib.Core.List.{List, [], _++_, append-assoc}
+use mathlib.Core.List.{List, _++_, append-assoc}
 use lib.ListN.{length, take, drop, length-append, length-drop}
 use lib.Seq.{take-at, length-take-le}
 use Rattle.k_tuples.specs.States.{State}
-use Rattle.k_tuples.specs.Work.{Answer, got, refused, _>>=_, Settling}
+use Rattle.k_tuples.specs.Work.{Answer, got, refused, _>>=_}
 use Rattle.k_tuples.specs.Blocks.{store}
 use Rattle.k_tuples.proofs.Work.{got-inj, not-got}
 use Rattle.k_tuples.proofs.Blocks.{length-sets}
-use Rattle.blocks.specs.Stores.{Turned}
 use Rattle.blocks.proofs.Stores.{turned-store, turned-sets, turned-beyond}
 use Rattle.first_theory.specs.Compute.{productionSets}
 use Rattle.first.specs.declared.Setup.{Setup}
 use Rattle.first.specs.Steps.{resultSets, oldSets, pastResult, pastScratch, room, Ready}
-use Rattle.first.specs.Rounds.{grammarIn, Rules}
+use Rattle.first.specs.Rounds.{grammarIn}
 use Rattle.first.specs.Levels.{Production, Produced}
 use Rattle.follow_theory.specs.Follow.{occurrencesOf, follow, positionSets}
 use Rattle.follow.specs.declared.round.Ending.{Ending}
 use Rattle.follow.specs.declared.round.Ending.the-variants.{Settled, Refused}
-use Rattle.follow.specs.Steps.{Grammatical, firstSets, InRow}
-use Rattle.follow.specs.Whole.{Positioned, PositionEnds, PositionsDone}
+use Rattle.follow.specs.Steps.{Grammatical, firstSets}
+use Rattle.follow.specs.Whole.{Positioned, PositionsDone}
 use Rattle.engine.specs.declared.Lookahead.{Lookahead}
 use Rattle.engine.specs.declared.Shape.{Shape}
 use Rattle.k_tuple.specs.Strings.{widthOf}
 use Rattle.engine.specs.Call.{answerOf}
-use Rattle.engine.specs.Runs.{setupOf, toldOf, finished, Begun, Rest, restOf, restAnswer, restFor, RestRan}
+use Rattle.engine.specs.Runs.{setupOf, toldOf, finished, Begun, Rest, restOf, restFor, RestRan}
 
 -- a refusal stays, whatever follows
 refused-more : {A B C : Type 0} {e : ℕ} (m : Answer A) (f : A → Answer B) (h : A → B → Answer C) → (m >>= f) ≡ refused e → (m >>= λ a. f a >>= h a) ≡ refused e
@@ -119,12 +118,7 @@ module _ {u : Setup} {k : ℕ} {words result scratch : List ℕ} (begun : Begun 
   follow-ready made e = ready-after (made .done e)
 
   pub follow-words : Grammatical u words
-  follow-words = record {
-    few = begun .rules .few;
-    sound = begun .rules .sound;
-    ranged = begun .rules .ranged;
-    places = begun .sets;
-  }
+  follow-words = record { rules = begun .rules; places = begun .sets }
 
   -- ---- behind FOLLOW
 

@@ -1,21 +1,20 @@
 -- The sets of an analysis can be kept, each in its block of 2c + 1 words, and asking for one gives its words. Assumes nothing.
-use Prim.Native.Nat.{ℕ, zero, suc, _+_, _*_, _^_, _≤_, _<_}
+use Prim.Native.Nat.{ℕ, zero, suc, _+_, _*_, _≤_, _<_}
 use native.Mathlib.Nat.{le-of-suc-le-suc, not-suc-le-zero}
 use native.Mathlib.Omega.{arith}
-use mathlib.Core.Path.{_≡_, refl, sym, ap, subst, _∙_}
+use mathlib.Core.Path.{_≡_}
 use mathlib.Core.List.{List, [], _∷_, _++_}
-use lib.ListN.{length, length-append}
-use Rattle.cfg.specs.Grammar.{Grammar, Production, Accepted}
-use Rattle.k_tuple.specs.Strings.{Str, widthOf, ones}
+use lib.ListN.{length}
+use Rattle.cfg.specs.Grammar.{Grammar, Accepted}
+use Rattle.k_tuple.specs.Strings.{Str, widthOf}
 use Rattle.k_tuple.proofs.Binary.{width-holds, width-le, width-pos}
-use Rattle.k_tuples.specs.Sets.{_∈_, Sorted}
+use Rattle.k_tuples.specs.Sets.{Sorted}
 use Rattle.k_tuples.specs.States.{State, setOf, Each, each-none, each-more}
-use Rattle.k_tuples.specs.Work.{Answer, got}
-use Rattle.k_tuples.specs.Held.{Fits}
+use Rattle.k_tuples.specs.Work.{got}
 use Rattle.k_tuples.specs.Blocks.{Kept, AllKept}
 use Rattle.k_tuples.proofs.Proper.{proper-fits}
 use Rattle.analysis.specs.Analysis.{Analysis, work}
-use Rattle.analysis.specs.Promises.{IsSetOf, AllProper, Analysed}
+use Rattle.analysis.specs.Promises.{AllProper, Analysed}
 use Rattle.analysis.proofs.Kept.{answers-right}
 use Rattle.analysis.proofs.Room.{work-room}
 use Rattle.engine.specs.Call.{setsOf}

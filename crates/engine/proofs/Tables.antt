@@ -1,21 +1,17 @@
 -- What the table's reader answers, as the call goes on with it. Assumes nothing.
 use Prim.Native.Nat.{ℕ, _≤_}
-use native.Mathlib.Omega.{arith}
-use mathlib.Core.Path.{_≡_, refl, sym, ap, _∙_, subst}
+use mathlib.Core.Path.{_≡_, sym, ap, _∙_, subst}
 use mathlib.Core.List.{List}
 use lib.ListN.{length, take}
 use lib.Seq.{length-take-le}
-use Rattle.cfg.specs.Grammar.{Grammar}
-use Rattle.cfg.specs.Reading.{Reading, got as read, refused as unread}
-use Rattle.cfg.specs.Table.{grammarOf, tableSays, TableSound, GrammarSound}
+use Rattle.cfg.specs.Reading.{got as read, refused as unread}
+use Rattle.cfg.specs.Table.{tableSays, TableSound, GrammarSound}
 use Rattle.cfg.specs.Accept.{acceptTable}
 use Rattle.cfg.specs.declared.table.TableAnswer.{TableAnswer}
-use Rattle.cfg.proofs.Tests.{known-sound}
 use Rattle.cfg.proofs.Meaning.{accepted}
 use Rattle.cfg.proofs.Sizes.{accepted-sizes}
 use Rattle.k_tuples.specs.Work.{refused}
 use Rattle.engine.specs.declared.Lookahead.{Lookahead}
-use Rattle.engine.specs.declared.Shape.{Shape}
 use Rattle.engine.specs.Call.{answerOf, Promised}
 use Rattle.engine.specs.Steps.{grammarIn, Ready, Asked, tableRefusal}
 use Rattle.engine.proofs.Calls.{table-refused, table-accepted}

@@ -1,12 +1,12 @@
 -- The buffers before and after the work: wiped, worked in, and wiped again where that is asked. Assumes nothing.
 use Prim.Native.Nat.{ℕ, _+_, _*_, _≤_}
 use native.Mathlib.Omega.{arith}
-use mathlib.Core.Path.{_≡_, refl, sym, ap, _∙_, subst}
+use mathlib.Core.Path.{_≡_, refl, sym, ap, _∙_}
 use mathlib.Core.Bool.{false}
 use mathlib.Core.List.{List, _++_}
 use borrow.Author.Tests.{lt-leb}
 use lib.Dec.{leb}
-use lib.ListN.{length, drop, replicate, length-replicate}
+use lib.ListN.{drop, replicate, length-replicate}
 use lib.Seq.{drop-at}
 use Rattle.cfg.specs.Grammar.{Grammar, Accepted}
 use Rattle.k_tuples.specs.Work.{Answer, got, refused}

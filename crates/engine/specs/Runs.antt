@@ -1,9 +1,9 @@
 -- What the work within the call promises, step by step, over the buffers in which FIRST and FOLLOW are worked out. Not for the reader of the call.
 -- Assumes nothing.
-use Prim.Native.Nat.{ℕ, _+_, _*_, _≤_}
-use mathlib.Core.List.{List, [], _++_}
+use Prim.Native.Nat.{ℕ, _+_, _*_}
+use mathlib.Core.List.{List, _++_}
 use mathlib.Core.Path.{_≡_}
-use lib.ListN.{length, replicate}
+use lib.ListN.{length}
 use Rattle.cfg.specs.Grammar.{Grammar}
 use Rattle.k_tuple.specs.Strings.{widthOf}
 use Rattle.k_tuples.specs.States.{State}

@@ -44,7 +44,7 @@ module _ {u : Setup} {k : ℕ} {words result₀ scratch₀ : List ℕ} (ready : 
       ready₁ = still-ready ready (turned-store (row₁ .turned)) (s .done e .store)
 
       pub suffixes-begin : Begins u result₁ scratch₁
-      suffixes-begin = record { k = k; ready = ready₁; room = omega (arith, g .places); first = g .ranged .start }
+      suffixes-begin = record { k = k; ready = ready₁; room = omega (arith, g .places); first = g .rules .ranged .start }
 
       module _ {result₂ scratch₂ : List ℕ} (b : Started u result₁ scratch₁ result₂ scratch₂) where
         stands₂ : Stands u k (firstSets u result₁) (start (u .n) (u .start)) (placeSets u result₁) result₁ scratch₁ result₂ scratch₂

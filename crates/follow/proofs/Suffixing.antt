@@ -12,7 +12,8 @@ use Rattle.follow_theory.specs.Follow.{follow}
 use Rattle.follow.specs.declared.walk.Walk.{Walk}
 use Rattle.follow.specs.Suffixes.{Suffixes}
 use Rattle.follow.specs.Walk.{symbolsLeft, Met, startOf}
-use Rattle.follow.specs.Steps.{placesAt, placeSets, occurrences, grammarOf, Grammatical, Passed}
+use Rattle.first.specs.Rounds.{grammarIn}
+use Rattle.follow.specs.Steps.{placesAt, placeSets, occurrences, Grammatical, Passed}
 use Rattle.follow.proofs.Suffixes.{follow-refuses}
 use Rattle.follow.proofs.Passes.{Making, making-start, making-end, making-over, making-more}
 use Rattle.follow.proofs.Standing.{row-old}
@@ -24,7 +25,7 @@ module _ (u : Setup) (k : ℕ) (words result₀ scratch₀ : List ℕ) where
 
   abbrev Ends : Bool → (result scratch : List ℕ) → Type 0
   Ends full result scratch =
-      Passed u k (follow (room u) k (grammarOf u words) (oldSets u result₀) ≡ refused 11) (Suffixes (room u) k (oldSets u result₀) (occurrences u words)) full result₀ scratch₀ result scratch
+      Passed u k (follow (room u) k (grammarIn u words) (oldSets u result₀) ≡ refused 11) (Suffixes (room u) k (oldSets u result₀) (occurrences u words)) full result₀ scratch₀ result scratch
 
   pub suffixing-start : Ready u k result₀ scratch₀ → Grammatical u words → Suffixing (startOf (u .p)) 0 result₀ scratch₀
   suffixing-start r g = passing-start u k words result₀ scratch₀ _ r g (making-start (room u) k (oldSets u result₀) (occurrences u words) (placeSets u result₀))
@@ -42,7 +43,7 @@ module _ (u : Setup) (k : ℕ) (words result₀ scratch₀ : List ℕ) where
       pub suffixing-over : full ≡ true → Ends true result′ scratch′
       suffixing-over e =
           passing-over u k words result₀ scratch₀ _ ready h m t
-          (follow-refuses (room u) k (oldSets u result₀) (grammarOf u words)
+          (follow-refuses (room u) k (oldSets u result₀) (grammarIn u words)
           (making-over (room u) k (oldSets u result₀) (occurrences u words) _ _ i (h .places) (passing-here u k words result₀ scratch₀ _ ready h m) (here ∙ t .over e)))
 
       pub suffixing-more : full ≡ false → Suffixing w′ (i + 1) result′ scratch′

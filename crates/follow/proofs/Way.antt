@@ -1,13 +1,12 @@
 -- On the way over the occurrences: i of them are passed, the others are to come, and all name nonterminals and terminals of the grammar.
 -- Assumes nothing.
-use Prim.Native.Nat.{ℕ, zero, suc, _+_, _-_, _≤_, _<_}
+use Prim.Native.Nat.{ℕ, _+_, _-_, _≤_, _<_}
 use native.Mathlib.Omega.{arith}
 use mathlib.Core.Path.{_≡_, refl, ap}
-use mathlib.Core.List.{List, [], _∷_, map, List·Memᴰ·head as here, List·Memᴰ·tail as there}
-use lib.ListN.{length, getD, take, drop}
-use Rattle.cfg.specs.Grammar.{Sym, nonterminal, terminal}
-use Rattle.cfg.specs.Written.{symbolOf}
-use Rattle.cfg.specs.Words.{Below, Sound}
+use mathlib.Core.List.{List, [], _∷_, List·Memᴰ·head as here, List·Memᴰ·tail as there}
+use lib.ListN.{length}
+use Rattle.cfg.specs.Grammar.{nonterminal}
+use Rattle.cfg.proofs.Tests.{sound-wider}
 use Rattle.k_tuples.specs.Sets.{_∈_}
 use Rattle.first.specs.declared.Setup.{Setup}
 use Rattle.first.specs.Steps.{sizes, Symbols}
@@ -17,9 +16,11 @@ use Rattle.follow_theory.specs.Follow.{Occurrence}
 use Rattle.follow_theory.proofs.Meaning.{occurs}
 use Rattle.follow.specs.declared.walk.Walk.{Walk}
 use Rattle.follow.specs.Walk.{symbolsLeft, toCome, Goes, Met, startOf}
-use Rattle.follow.specs.Steps.{placesAt, occurrences, grammarOf, Grammatical, At}
+use Rattle.first.specs.Rounds.{grammarIn}
+use Rattle.follow.specs.Steps.{placesAt, occurrences, Grammatical, At}
 use Rattle.follow.proofs.Seeking.{start-come, start-goes}
 
+-- what an occurrence names is in range
 pub record Inside (u : Setup) (o : Occurrence) : Type 0 where
   pub target : o .target < u .n
   pub source : o .source < u .n
@@ -27,25 +28,13 @@ pub record Inside (u : Setup) (o : Occurrence) : Type 0 where
 
 all-inside : (u : Setup) (words : List ℕ) → Grammatical u words → (o : Occurrence) → o ∈ occurrences u words → Inside u o
 all-inside u words g o m =
-    let w = grammarOf u words in
+    let w = grammarIn u words in
     let r = occurs w (w .productions) (λ p i. i) o m in
-    let rule = g .ranged .rules (r .1) in
+    let rule = g .rules .ranged .rules (r .1) in
     let range = in-range-append w (r .0) (nonterminal (o .target) ∷ o .rest) .0 (rule .1) .1 in
     record { target = range .0; source = rule .0; rest = range-same w (sizes u) (o .rest) refl refl (range .1) }
 
--- words with nonterminals below n have them below any greater bound
-below-more : (n m : ℕ) (ss : List Sym) → n ≤ m → Below n ss → Below m ss
-below-more n m [] h b = tt
-below-more n m (nonterminal i ∷ ss) h b = (omega (arith, b .0), below-more n m ss h (b .1))
-below-more n m (terminal x ∷ ss) h b = below-more n m ss h b
-
-sound-more : (n m p : ℕ) (ws : List ℕ) → n ≤ m → Sound n p ws → Sound m p ws
-sound-more n m zero ws h s = tt
-sound-more n m (suc p) ws h s = (
-  record { whole = s .0 .whole; left = omega (arith, s .0 .left); right = below-more n m (map symbolOf (take (getD ws 1 0) (drop 2 ws))) h (s .0 .right) },
-  sound-more n m p (drop (2 + getD ws 1 0) ws) h (s .1),
-)
-
+-- i occurrences are passed, and the walk is at w
 pub record Way (u : Setup) (words : List ℕ) (w : Walk) (i : ℕ) : Type 0 where
   pub goes : Goes words w
   pub count : placesAt u + (i + length (toCome words w)) ≡ u .rsets
@@ -56,7 +45,7 @@ module _ {u : Setup} {words : List ℕ} where
   way-start g =
       let all = start-come (u .p) words in
       record {
-        goes = start-goes (u .p) words (sound-more (u .n) 128 (u .p) words (g .few) (g .sound));
+        goes = start-goes (u .p) words (sound-wider (u .n) 128 (g .rules .few) (u .p) words (g .rules .sound));
         count = rw all (omega (arith, g .places));
         inside = λ o m. all-inside u words g o (rw all at m);
       }

@@ -14,12 +14,11 @@ use Rattle.k_tuples.specs.Work.{Answer, refused, got, Settling}
 use Rattle.k_tuples.specs.Blocks.{IsStored}
 use Rattle.k_tuples.specs.declared.set.Grown.{Grown}
 use Rattle.k_tuples.specs.declared.set.Grown.the-variants.{Added, Same}
-use Rattle.cfg.specs.Grammar.{Grammar, Ranged}
 use Rattle.cfg.specs.Written.{productionsOf}
-use Rattle.cfg.specs.Words.{Sound}
 use Rattle.blocks.specs.Stores.{Turned, Filled}
 use Rattle.first.specs.declared.Setup.{Setup}
 use Rattle.first.specs.Steps.{resultSets, scratchSets, pastResult, pastScratch, oldSets, room, Ready}
+use Rattle.first.specs.Rounds.{Rules}
 use Rattle.follow_theory.specs.Equations.{start}
 use Rattle.follow_theory.specs.Follow.{Occurrence, occurrencesOf}
 use Rattle.follow.specs.Suffixes.{Suffixes}
@@ -49,15 +48,9 @@ placeSets u ws = drop (placesAt u) (resultSets u ws)
 abbrev pub occurrences : Setup → List ℕ → List Occurrence
 occurrences u words = occurrencesOf (productionsOf (u .p) words)
 
--- the grammar whose productions they are
-abbrev pub grammarOf : Setup → List ℕ → Grammar
-grammarOf u words = record { n = u .n; t = u .t; start = u .start; productions = productionsOf (u .p) words }
-
--- words of a grammar, for which the result has a set for each position
+-- words that the table's reader has made, for which the result has a set for each position
 pub record Grammatical (u : Setup) (words : List ℕ) : Type 0 where
-  pub few : u .n ≤ 128
-  pub sound : Sound (u .n) (u .p) words
-  pub ranged : Ranged (grammarOf u words)
+  pub rules : Rules u words
   pub places : u .rsets ≡ placesAt u + length (occurrences u words)
 
 -- the result has come to hold the sets A, F and Z, of which F are FOLLOW's

@@ -11,11 +11,12 @@ use Rattle.follow_theory.specs.Follow.{follow, positionSets}
 use Rattle.follow.specs.declared.round.Ending.{Ending}
 use Rattle.follow.specs.declared.round.Ending.the-variants.{Settled, Refused}
 use Rattle.follow.specs.Suffixes.{Suffixes}
-use Rattle.follow.specs.Steps.{firstSets, occurrences, grammarOf, InRow}
+use Rattle.first.specs.Rounds.{grammarIn}
+use Rattle.follow.specs.Steps.{firstSets, occurrences, InRow}
 
 -- the theory's answers, over the FIRST sets that the result holds
 abbrev pub followOf : Setup → ℕ → (words result : List ℕ) → Answer Settling
-followOf u k words result = follow (room u) k (grammarOf u words) (oldSets u result)
+followOf u k words result = follow (room u) k (grammarIn u words) (oldSets u result)
 
 abbrev pub positionsOf : Setup → ℕ → (words result : List ℕ) → State → Answer State
 positionsOf u k words result F = positionSets (room u) k (oldSets u result) (occurrences u words) F

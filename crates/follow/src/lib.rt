@@ -7,9 +7,8 @@ pub mod round;
 pub mod suffix;
 pub mod walk;
 
-ghost use Rattle.first.specs.Steps.{Ready, oldSets, room};
-ghost use Rattle.follow_theory.specs.Follow.{follow};
-ghost use Rattle.follow.specs.Steps.{Grammatical, grammarOf};
+ghost use Rattle.first.specs.Steps.{Ready};
+ghost use Rattle.follow.specs.Steps.{Grammatical};
 ghost use Rattle.follow.specs.Whole.{Followed, Positioned};
 use crate::begin::start_follow;
 use crate::place::make_positions;

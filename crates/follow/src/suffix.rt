@@ -4,7 +4,8 @@ ghost use Rattle.k_tuples.specs.Work.{refused};
 ghost use Rattle.first.specs.Steps.{Ready, oldSets, room};
 ghost use Rattle.follow_theory.specs.Follow.{follow};
 ghost use Rattle.follow.specs.Suffixes.{Suffixes};
-ghost use Rattle.follow.specs.Steps.{Grammatical, Passed, occurrences, grammarOf};
+ghost use Rattle.first.specs.Rounds.{grammarIn};
+ghost use Rattle.follow.specs.Steps.{Grammatical, Passed, occurrences};
 use crate::walk::next;
 use crate::walk::start;
 use first::Setup;
@@ -19,7 +20,7 @@ pub fn make_suffixes(
     words: &[u16],
 ) -> bool
     requires { ⌜ Ready u k (now result) (now scratch) × Grammatical u (now words) ⌝ }
-    ensures { λ r. ⌜ Passed u k (follow (room u) k (grammarOf u (now (words .entry))) (oldSets u (now (result .entry))) ≡ refused 11) (Suffixes (room u) k (oldSets u (now (result .entry))) (occurrences u (now (words .entry)))) r (now (result .entry)) (now (scratch .entry)) (now (result .exit)) (now (scratch .exit)) ⌝ }
+    ensures { λ r. ⌜ Passed u k (follow (room u) k (grammarIn u (now (words .entry))) (oldSets u (now (result .entry))) ≡ refused 11) (Suffixes (room u) k (oldSets u (now (result .entry))) (occurrences u (now (words .entry)))) r (now (result .entry)) (now (scratch .entry)) (now (result .exit)) (now (scratch .exit)) ⌝ }
 {
     let places = u.n + u.p + u.n;
     let q = u.rsets - places;

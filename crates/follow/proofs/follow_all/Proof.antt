@@ -20,7 +20,7 @@ same-length-2 : tie.Need-same-length-2
 same-length-2 c = search needs
 
 returns : tie.Need-returns
-returns c = follow-refused (c .before .before .before .before .before .before .before .before .before .before .before .before .pre .0) (c .before .before .before .before .before .before .before .before .before .before .before .before .pre .1) (c .before .before .before .before .before .before .follow-sets .ensures) _ (c .enum-told .given .1)
+returns c = search follow-refused
 
 make-positions-requires : tie.Need-make-positions-requires
 make-positions-requires c κs = (follow-ready (c .before .before .before .before .before .before .before .before .before .before .before .before .before .before .before .pre .0) (c .before .before .before .before .before .before .before .before .before .before .before .before .before .before .before .pre .1) (c .before .before .before .before .before .before .before .before .before .follow-sets .ensures) _ (c .before .before .before .ending .given .1), follow-suffixed (c .before .before .before .before .before .before .before .before .before .before .before .before .before .before .before .pre .0) (c .before .before .before .before .before .before .before .before .before .before .before .before .before .before .before .pre .1) (c .before .before .before .before .before .before .before .before .before .follow-sets .ensures) _ (c .before .before .before .ending .given .1))
@@ -32,7 +32,7 @@ same-length-4 : tie.Need-same-length-4
 same-length-4 c = search needs
 
 returns-2 : tie.Need-returns-2
-returns-2 c = positions-refused (c .before .before .before .before .before .before .before .before .before .before .before .before .before .before .before .before .before .before .before .before .before .pre .0) (c .before .before .before .before .before .before .before .before .before .before .before .before .before .before .before .before .before .before .before .before .before .pre .1) (c .before .before .before .before .before .before .before .before .before .before .before .before .before .before .before .follow-sets .ensures) _ (c .before .before .before .before .before .before .before .before .before .ending .given .1) (c .before .before .before .before .before .make-positions .ensures) (c .if1 .taken)
+returns-2 c = search positions-refused
 
 same-length-5 : tie.Need-same-length-5
 same-length-5 c = search needs
@@ -41,7 +41,7 @@ same-length-6 : tie.Need-same-length-6
 same-length-6 c = search needs
 
 returns-3 : tie.Need-returns-3
-returns-3 c = positions-done (c .before .before .before .before .before .before .before .before .before .before .before .before .before .before .before .before .before .before .before .before .before .pre .0) (c .before .before .before .before .before .before .before .before .before .before .before .before .before .before .before .before .before .before .before .before .before .pre .1) (c .before .before .before .before .before .before .before .before .before .before .before .before .before .before .before .follow-sets .ensures) _ (c .before .before .before .before .before .before .before .before .before .ending .given .1) (c .before .before .before .before .before .make-positions .ensures) (c .if1 .left)
+returns-3 c = search positions-done
 
 pub follow-all-spec : {M : Type 1} → statement M
 follow-all-spec =

@@ -24,7 +24,7 @@ same-length-2 : tie.Need-same-length-2
 same-length-2 c = search needs
 
 returns : tie.Need-returns
-returns c = started (c .before .before .before .before .before .before .before .before .before .before .before .before .before .before .before .before .pre) (c .before .before .before .before .before .before .before .before .before .before .before .before .clear-first .ensures) (c .before .before .before .before .before .before .before .before .end .ensures) (c .before .before .before .before .before .before .before .put-single .ensures) (c .before .before .copy-follow .ensures)
+returns c = search started
 
 pub start-follow-spec : {M : Type 1} → statement M
 start-follow-spec =

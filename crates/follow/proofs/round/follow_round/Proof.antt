@@ -73,19 +73,19 @@ returns : tie.Need-returns Inv-loop μ-loop
 returns c = search rounding-over
 
 same-length-3 : tie.Need-same-length-3 Inv-loop μ-loop
-same-length-3 c = result-length _ _ _ _ _ (c .before .before .before .before .before .before .before .before .before .before .pre) (c .before .before .loop .inv)
+same-length-3 c = search result-length
 
 same-length-4 : tie.Need-same-length-4 Inv-loop μ-loop
-same-length-4 c = scratch-length _ _ _ _ _ (c .before .before .before .before .before .before .before .before .before .before .pre) (c .before .before .loop .inv)
+same-length-4 c = search scratch-length
 
 returns-2 : tie.Need-returns-2 Inv-loop μ-loop
 returns-2 c = rounding-end _ _ _ _ _ (c .before .before .before .before .before .before .before .before .before .before .pre) (c .before .before .loop .inv) (c .before .loop-test .left) true (c .if1 .taken)
 
 same-length-5 : tie.Need-same-length-5 Inv-loop μ-loop
-same-length-5 c = result-length _ _ _ _ _ (c .before .before .before .before .before .before .before .before .before .before .pre) (c .before .before .loop .inv)
+same-length-5 c = search result-length
 
 same-length-6 : tie.Need-same-length-6 Inv-loop μ-loop
-same-length-6 c = scratch-length _ _ _ _ _ (c .before .before .before .before .before .before .before .before .before .before .pre) (c .before .before .loop .inv)
+same-length-6 c = search scratch-length
 
 returns-3 : tie.Need-returns-3 Inv-loop μ-loop
 returns-3 c = rounding-end _ _ _ _ _ (c .before .before .before .before .before .before .before .before .before .before .pre) (c .before .before .loop .inv) (c .before .loop-test .left) false (c .if1 .left)

@@ -70,10 +70,10 @@ loop-again : tie.Need-loop-again Inv-loop μ-loop
 loop-again c = search climb-more
 
 same-length-5 : tie.Need-same-length-5 Inv-loop μ-loop
-same-length-5 c = result-length _ _ _ _ _ (c .before .before .before .before .before .before .before .pre) (c .before .loop .inv)
+same-length-5 c = search result-length
 
 same-length-6 : tie.Need-same-length-6 Inv-loop μ-loop
-same-length-6 c = scratch-length _ _ _ _ _ (c .before .before .before .before .before .before .before .pre) (c .before .loop .inv)
+same-length-6 c = search scratch-length
 
 returns-3 : tie.Need-returns-3 Inv-loop μ-loop
 returns-3 c = search climb-late

@@ -74,13 +74,13 @@ loop-again : tie.Need-loop-again Inv-loop μ-loop
 loop-again c = suffixing-more _ _ _ _ _ (c .before .before .before .before .before .before .before .before .before .before .before .before .before .before .before .before .before .before .before .pre .0) (c .before .before .before .before .before .before .before .before .before .before .before .loop .inv) (c .before .before .before .before .before .before .before .before .before .next .ensures) (c .before .before .before .before .before .first-of-right-side .ensures) (c .if1 .left)
 
 same-length-3 : tie.Need-same-length-3 Inv-loop μ-loop
-same-length-3 c = result-length _ _ _ _ _ _ (c .before .before .before .before .before .before .before .before .before .pre .0) (c .before .loop .inv)
+same-length-3 c = search result-length
 
 same-length-4 : tie.Need-same-length-4 Inv-loop μ-loop
-same-length-4 c = scratch-length _ _ _ _ _ _ (c .before .before .before .before .before .before .before .before .before .pre .0) (c .before .loop .inv)
+same-length-4 c = search scratch-length
 
 returns-2 : tie.Need-returns-2 Inv-loop μ-loop
-returns-2 c = suffixing-end _ _ _ _ _ (c .before .before .before .before .before .before .before .before .before .pre .0) (c .before .loop .inv) (c .loop-test .left)
+returns-2 c = search suffixing-end
 
 pub make-suffixes-spec : {M : Type 1} → statement M
 make-suffixes-spec =

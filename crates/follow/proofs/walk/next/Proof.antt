@@ -1,3 +1,4 @@
+-- `walk::next` meets its contract. The loop's invariant is `Seeks`. Assumes nothing.
 use borrow.Author.Needs.{needs}
 use lib.ListN.{length}
 use native.Mathlib.Omega.{arith}
