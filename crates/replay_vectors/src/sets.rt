@@ -1,4 +1,4 @@
-// Runs stored cases of sets through the public functions, a case a line, and prints each answer on a line.
+// Stored cases of sets: each runs through a public function, and its answer is printed, with the words of the output where there is one.
 // The output lent to a call is full of marks before it, so that words left as they came are seen.
 use k_tuples::SetAnswer;
 use k_tuples::TestAnswer;
@@ -8,11 +8,9 @@ use k_tuples::is_disjoint;
 use k_tuples::is_k_complete;
 use k_tuples::k_concat;
 use k_tuples::union;
-use libc::STDIN_FILENO;
 use replay::find;
 use replay::is;
 use replay::read_column;
-use replay::readable;
 use replay::told;
 use replay::truth;
 use replay::words;
@@ -127,8 +125,8 @@ fn answered(word: &[u8], head: &[u64], a: &[u64], b: &[u64]) -> bool {
     into_output(word, head[0], a, b, &mut out[0..n])
 }
 
-// Runs the case of a line; false where it is unreadable.
-fn run(line: &[u8]) -> bool {
+// Runs the case of a line; false where it is none of these.
+pub fn run(line: &[u8]) -> bool {
     let end = find(line, 0, b' ');
     let mut head = [0u64; 4];
     let mut a = [0u64; 64];
@@ -151,20 +149,4 @@ fn run(line: &[u8]) -> bool {
         &a[..a_count],
         &b[..b_count],
     )
-}
-
-fn each(text: &[u8]) {
-    let mut at = 0;
-    while at < text.len() {
-        let end = find(text, at, b'\n');
-        readable(run(&text[at..end]));
-        at = end + 1;
-    }
-}
-
-// It reads no more than 65,536 bytes.
-fn main() {
-    let mut text = io::large_buffer();
-    let n = io::read_full(STDIN_FILENO, &mut text);
-    each(&text[..n]);
 }

@@ -1,9 +1,9 @@
--- `replay_sets::all_are` is safe and ends. Assumes nothing.
+-- `replay_vectors::sets::all_are` is safe and ends. Assumes nothing.
 use borrow.Author.Needs.{needs}
 use Prim.Native.Nat.{_-_}
 use lib.ListN.{length}
-use Rattle.replay_sets.proofs.all_are.Statement.{statement}
-use Rattle.replay_sets.proofs.all_are.Tie as tie
+use Rattle.replay_vectors.proofs.sets.all_are.Statement.{statement}
+use Rattle.replay_vectors.proofs.sets.all_are.Tie as tie
 
 abbrev Inv-loop : tie.InvT-loop
 Inv-loop ws x i₀ i = Unit {0}

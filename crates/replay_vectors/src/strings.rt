@@ -1,14 +1,12 @@
-// Runs stored cases of packed strings through the public functions, a case a line, and prints each answer on a line.
+// Stored cases of packed strings: each runs through a public function, and its answer is printed on a line.
 ghost use Rattle.io.specs.Counts.{Counts};
 use k_tuple::CompleteAnswer;
 use k_tuple::OrderAnswer;
 use k_tuple::StringAnswer;
 use k_tuple::Terminals;
 use k_tuple::WidthAnswer;
-use libc::STDIN_FILENO;
 use replay::find;
 use replay::is;
-use replay::readable;
 use replay::refused;
 use replay::told;
 use replay::truth;
@@ -171,8 +169,8 @@ fn answered(word: &[u8], n: &[u64]) -> bool {
     }
 }
 
-// Runs the case of a line; false where it is unreadable.
-fn run(line: &[u8]) -> bool {
+// Runs the case of a line; false where it is none of these.
+pub fn run(line: &[u8]) -> bool {
     let end = find(line, 0, b' ');
     let mut n = [0u64; 64];
     let column = replay::read_column(line, end, &mut n);
@@ -181,20 +179,4 @@ fn run(line: &[u8]) -> bool {
         return answered(&line[0..end], &n[..count]);
     }
     false
-}
-
-fn each(text: &[u8]) {
-    let mut at = 0;
-    while at < text.len() {
-        let end = find(text, at, b'\n');
-        readable(run(&text[at..end]));
-        at = end + 1;
-    }
-}
-
-// It reads no more than 65,536 bytes.
-fn main() {
-    let mut text = io::large_buffer();
-    let n = io::read_full(STDIN_FILENO, &mut text);
-    each(&text[..n]);
 }

@@ -1,9 +1,9 @@
--- `replay_sets::each` is safe and ends: each turn passes a line. Assumes nothing.
+-- `replay_vectors::each` is safe and ends: each turn passes a line. Assumes nothing.
 use borrow.Author.Needs.{needs}
 use Prim.Native.Nat.{_-_}
 use lib.ListN.{length}
-use Rattle.replay_sets.proofs.each.Statement.{statement}
-use Rattle.replay_sets.proofs.each.Tie as tie
+use Rattle.replay_vectors.proofs.each.Statement.{statement}
+use Rattle.replay_vectors.proofs.each.Tie as tie
 
 abbrev Inv-loop : tie.InvT-loop
 Inv-loop text at₀ at = Unit {0}

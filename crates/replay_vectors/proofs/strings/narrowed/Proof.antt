@@ -1,12 +1,12 @@
--- `replay_strings::narrowed` meets its contract: the terminals counted are within those lent. Assumes nothing.
+-- `replay_vectors::strings::narrowed` meets its contract: the terminals counted are within those lent. Assumes nothing.
 use borrow.Author.Needs.{needs}
 use native.Mathlib.Omega.{arith}
 use Prim.Native.Nat.{_≤_, _-_}
 use mathlib.Core.Path.{_≡_}
 use lib.ListN.{length, length-set}
 use Rattle.io.proofs.Counting.{counts}
-use Rattle.replay_strings.proofs.narrowed.Statement.{statement}
-use Rattle.replay_strings.proofs.narrowed.Tie as tie
+use Rattle.replay_vectors.proofs.strings.narrowed.Statement.{statement}
+use Rattle.replay_vectors.proofs.strings.narrowed.Tie as tie
 
 abbrev Inv-loop : tie.InvT-loop
 Inv-loop xs into₀ i₀ into i = (i ≤ length into) × (length into ≡ length into₀)
