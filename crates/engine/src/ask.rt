@@ -43,7 +43,7 @@ fn kind_count(kind: usize, n: usize, p: usize, q: usize) -> usize
     0
 }
 
-fn kind_start(kind: usize, n: usize, p: usize) -> usize
+pub fn kind_start(kind: usize, n: usize, p: usize) -> usize
     requires { ⌜ (n ≤ 128) × (p ≤ 512) ⌝ }
     ensures { λ r. ⌜ r ≡ kindStart kind n p ⌝ }
 {
@@ -60,7 +60,15 @@ fn kind_start(kind: usize, n: usize, p: usize) -> usize
 }
 
 // Whether there is such a set, and the words hold a whole result.
-fn there_is(len: usize, kind: usize, number: usize, n: usize, p: usize, q: usize, c: usize) -> bool
+pub fn there_is(
+    len: usize,
+    kind: usize,
+    number: usize,
+    n: usize,
+    p: usize,
+    q: usize,
+    c: usize,
+) -> bool
     ensures { λ r. ⌜ r ≡ thereIs len kind number n p q c ⌝ }
 {
     if in_limits(n, p, q, c) {} else {

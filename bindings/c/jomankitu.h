@@ -1,0 +1,73 @@
+/* The library for C: target/staticlib/libexports.a (rt staticlib exports), for x86-64 Linux.
+
+   A list is passed as a pointer and the number of its elements. No two lists of one call may overlap where one of them is written.
+   Each function returns the number of a refusal, 0 where there is none (docs: the table of refusals). Its other numbers go to the
+   words that are lent last, each of them 0 on a refusal. If those words are too few, it returns 10 and writes nothing at all.
+   A string is two words, the low one first. A set is a count, then its members in order, two words each, then zeros. */
+#ifndef JOMANKITU_H
+#define JOMANKITU_H
+#include <stddef.h>
+#include <stdint.h>
+#ifdef __cplusplus
+extern "C" {
+#endif
+
+/* FIRST and FOLLOW of a table at k (1 to 10), with room for c (1 to 1,024) members in each set. result needs (2n + p + q)(2c + 1) words and
+   scratch (2n + 4)(2c + 1). answer gets 16 words: refusal, n, p, q, width, the rounds of ten levels, the rounds of FOLLOW. */
+uint64_t jomankitu_lookahead_sets(uint64_t k, uint64_t c, const uint8_t *table, size_t table_len, uint64_t *result, size_t result_len,
+                                  uint64_t *scratch, size_t scratch_len, uint64_t *answer, size_t answer_len);
+
+/* Where in a result of len words a set begins, and how many words it has; 0 and 0 if there is no such set, or len is less than the whole
+   result needs. Kinds: 0 FIRST of nonterminals, 1 FIRST of productions, 2 FOLLOW of nonterminals, 3 positions. out gets 2 words. */
+uint64_t jomankitu_set_of(size_t len, size_t kind, size_t number, size_t n, size_t p, size_t q, size_t c, uint64_t *out, size_t out_len);
+
+/* The width of strings whose greatest terminal is m. out gets 1 word. */
+uint64_t jomankitu_width(uint64_t m, uint64_t *out, size_t out_len);
+
+/* The string epsilon, for the greatest terminal m. out gets 2 words. */
+uint64_t jomankitu_eps(uint64_t m, uint64_t *out, size_t out_len);
+
+/* The end marker alone, for the greatest terminal m. out gets 2 words. */
+uint64_t jomankitu_end(uint64_t m, uint64_t *out, size_t out_len);
+
+/* The string of the first k of a list of terminals, for the greatest terminal m. out gets 2 words. */
+uint64_t jomankitu_make(const uint16_t *list, size_t list_len, uint64_t k, uint64_t m, uint64_t *out, size_t out_len);
+
+/* A string with the terminal x behind it, unless it has ended. out gets 2 words. */
+uint64_t jomankitu_push(uint64_t lo, uint64_t hi, uint64_t x, uint64_t *out, size_t out_len);
+
+/* The first k slots of a string. out gets 2 words. */
+uint64_t jomankitu_cut(uint64_t lo, uint64_t hi, uint64_t k, uint64_t *out, size_t out_len);
+
+/* The string x joined with y at k. out gets 2 words. */
+uint64_t jomankitu_join(uint64_t x_lo, uint64_t x_hi, uint64_t y_lo, uint64_t y_hi, uint64_t k, uint64_t *out, size_t out_len);
+
+/* Whether a string is complete at k. out gets 1 word: 1 or 0. */
+uint64_t jomankitu_complete(uint64_t lo, uint64_t hi, uint64_t k, uint64_t *out, size_t out_len);
+
+/* The order of x and y. out gets 1 word: 0 less, 1 equal, 2 greater. */
+uint64_t jomankitu_order(uint64_t x_lo, uint64_t x_hi, uint64_t y_lo, uint64_t y_hi, uint64_t *out, size_t out_len);
+
+/* The length of a string and its slots, epsilon as 65,535, unused places 0. out gets 11 words. */
+uint64_t jomankitu_unpack(uint64_t lo, uint64_t hi, uint64_t *out, size_t out_len);
+
+/* The union of the sets a and b at k (1 to 10), in the words of out. told gets 1 word: 1 if it has more members than a, else 0. */
+uint64_t jomankitu_union(uint64_t k, const uint64_t *a, size_t a_len, const uint64_t *b, size_t b_len, uint64_t *out, size_t out_len,
+                         uint64_t *told, size_t told_len);
+
+/* The intersection of the sets a and b at k, in the words of out. */
+uint64_t jomankitu_intersection(uint64_t k, const uint64_t *a, size_t a_len, const uint64_t *b, size_t b_len, uint64_t *out, size_t out_len);
+
+/* Whether the sets a and b have no member in common. out gets 1 word: 1 or 0. */
+uint64_t jomankitu_disjoint(uint64_t k, const uint64_t *a, size_t a_len, const uint64_t *b, size_t b_len, uint64_t *out, size_t out_len);
+
+/* Whether every member of the set a is complete at k. out gets 1 word: 1 or 0. */
+uint64_t jomankitu_all_complete(uint64_t k, const uint64_t *a, size_t a_len, uint64_t *out, size_t out_len);
+
+/* The join of the sets a and b at k, in the words of out. */
+uint64_t jomankitu_join_sets(uint64_t k, const uint64_t *a, size_t a_len, const uint64_t *b, size_t b_len, uint64_t *out, size_t out_len);
+
+#ifdef __cplusplus
+}
+#endif
+#endif

@@ -1,0 +1,74 @@
+/* Calls every function of jomankitu.h and checks what it leaves: the listing of document 01, and some of its exercises. The exit status is 0 if all is
+   right, else the number of the first check that is not. */
+#include "jomankitu.h"
+
+enum { K = 2, C = 8, SIZE = 2 * C + 1, WORDS = 4096 };
+#define LENGTH(list) (sizeof(list) / sizeof *(list))
+#define ONE 0x4100000000000000u /* the high word of one slot at width 4 */
+#define TWO 0x4200000000000000u
+
+static const uint8_t table[] = {0x02, 0x02, 0x00, 0x03, 0x00, 0x02, 0x0B, 0x02, 0x01, 0x01, 0x0D, 0x01, 0x00};
+static const uint64_t record[16] = {0, 2, 3, 1, 4, 2, 2, 0, 0, 0, 0, 0, 0, 0, 0, 2};
+/* the eight sets of the listing, each a count and its members */
+static const uint64_t sets[8][5] = {
+    {2, 5, ONE, 101, TWO}, {2, 6, ONE, 15, ONE}, {2, 5, ONE, 101, TWO}, {1, 6, ONE}, {1, 15, ONE}, {1, 0, ONE}, {1, 0, ONE}, {1, 0, ONE},
+};
+static uint64_t result[WORDS], scratch[WORDS], answer[16], out[11];
+
+static int same(const uint64_t *a, const uint64_t *b, size_t count) {
+    for (size_t i = 0; i < count; i++) if (a[i] != b[i]) return 0;
+    return 1;
+}
+static int is_set(size_t kind, size_t number, const uint64_t *set) {
+    uint64_t part[2];
+    if (jomankitu_set_of(WORDS, kind, number, 2, 3, 1, C, part, 2) || part[1] != SIZE) return 0;
+    for (size_t i = 0; i < SIZE; i++) if (result[part[0] + i] != (i < 5 ? set[i] : 0)) return 0;
+    return 1;
+}
+static int listing(void) {
+    static const size_t counts[4] = {2, 3, 2, 1};
+    if (jomankitu_lookahead_sets(K, C, table, sizeof table, result, WORDS, scratch, WORDS, answer, 15) != 10) return 1;
+    if (jomankitu_lookahead_sets(11, C, table, sizeof table, result, WORDS, scratch, WORDS, answer, 16) != 1 || answer[0] != 1) return 2;
+    if (jomankitu_lookahead_sets(K, C, table, sizeof table - 1, result, WORDS, scratch, WORDS, answer, 16) != 3) return 3;
+    if (jomankitu_lookahead_sets(K, C, table, sizeof table, result, WORDS, scratch, WORDS, answer, 16)) return 4;
+    if (!same(answer, record, 16)) return 5;
+    for (size_t kind = 0, at = 0; kind < 4; kind++)
+        for (size_t number = 0; number < counts[kind]; number++) if (!is_set(kind, number, sets[at++])) return 6;
+    for (size_t i = 0; i < WORDS; i++) if (scratch[i] || (i >= 8 * SIZE && result[i])) return 7;
+    if (jomankitu_set_of(WORDS, 3, 1, 2, 3, 1, C, out, 2) || out[0] || out[1]) return 8;
+    return jomankitu_set_of(8 * SIZE - 1, 0, 0, 2, 3, 1, C, out, 2) || out[0] || out[1] ? 9 : 0;
+}
+static int strings(void) {
+    static const uint16_t list[] = {6, 7, 8};
+    static const uint64_t five_six_seven[11] = {3, 5, 6, 7};
+    uint64_t x[2], y[2];
+    if (jomankitu_width(7, out, 1) || out[0] != 4 || jomankitu_width(4095, out, 1) != 14 || out[0]) return 20;
+    if (jomankitu_eps(7, out, 2) || out[0] != 15 || out[1] != ONE || jomankitu_eps(7, out, 1) != 10) return 21;
+    if (jomankitu_end(7, out, 2) || out[0] || out[1] != ONE) return 22;
+    if (jomankitu_make(list, LENGTH(list), 3, 8, y, 2) || jomankitu_make(list, 0, 3, 8, x, 2) || jomankitu_push(x[0], x[1], 5, x, 2)) return 23;
+    if (x[0] != 5 || x[1] != ONE) return 24;
+    if (jomankitu_join(x[0], x[1], y[0], y[1], 3, out, 2)) return 25;
+    x[0] = out[0];
+    x[1] = out[1];
+    if (jomankitu_unpack(x[0], x[1], out, 11) || !same(out, five_six_seven, 11)) return 26;
+    if (jomankitu_cut(x[0], x[1], 2, out, 2) || out[0] != 101 || out[1] != TWO) return 27;
+    if (jomankitu_complete(x[0], x[1], 3, out, 1) || out[0] != 1 || jomankitu_complete(x[0], x[1], 4, out, 1) || out[0]) return 28;
+    if (jomankitu_order(15, ONE, 101, TWO, out, 1) || out[0] || jomankitu_order(15, ONE, 0, ONE, out, 1) || out[0] != 2) return 29;
+    return jomankitu_push(15, ONE, 5, out, 2) != 17 || jomankitu_unpack(1, 0, out, 11) != 13 ? 30 : 0;
+}
+static int of_sets(void) {
+    static const uint64_t a[] = {1, 5, ONE}, b[] = {2, 5, ONE, 6, ONE}, joined[] = {2, 85, TWO, 101, TWO, 0, 0};
+    uint64_t told[1];
+    if (jomankitu_union(2, a, LENGTH(a), b, LENGTH(b), out, 7, told, 1) || told[0] != 1 || !same(out, b, 5) || out[5]) return 40;
+    if (jomankitu_union(2, b, LENGTH(b), a, LENGTH(a), out, 7, told, 1) || told[0]) return 41;
+    if (jomankitu_union(2, a, LENGTH(a), b, LENGTH(b), out, 4, told, 1) != 11 || out[0] || jomankitu_union(2, a, 3, b, 5, out, 7, told, 0) != 10) return 42;
+    if (jomankitu_intersection(2, a, LENGTH(a), b, LENGTH(b), out, 7) || !same(out, a, 3) || out[3]) return 43;
+    if (jomankitu_disjoint(2, a, LENGTH(a), b, LENGTH(b), told, 1) || told[0]) return 44;
+    if (jomankitu_all_complete(1, b, LENGTH(b), told, 1) || told[0] != 1 || jomankitu_all_complete(2, b, LENGTH(b), told, 1) || told[0]) return 45;
+    return jomankitu_join_sets(2, a, LENGTH(a), b, LENGTH(b), out, 7) || !same(out, joined, 7) ? 46 : 0;
+}
+int main(void) {
+    int wrong = listing();
+    if (!wrong) wrong = strings();
+    return wrong ? wrong : of_sets();
+}

@@ -1,0 +1,103 @@
+#!/bin/bash
+# Measures the engine's call against the same call in C (tests/bench/engine.c): instructions of a whole analysis, from the bytes of a table to the last set.
+#
+#   tools/measure_engine.sh FOLDER [K..]      for each *.table of the folder; at 2 3 4 if no k is named
+#
+# Both are the program tests/bench/analysis.c for x86-64 by one compiler, the toolchain's own, linked with the static library or with the C engine. c is
+# the least that serves, found by halving: where it serves, each greater one does. Both must leave the same record and the same result words.
+# On another processor both run under the toolchain's emulator, whose trace names each block of instructions that is run. A run with blocks of one
+# instruction tells where instructions begin, so that those of each block are known: a count is exact and repeats. On x86-64 perf counts.
+# A count is the difference between a run of two analyses and a run of one: what a program does before and after is not in it.
+set -euo pipefail
+cd "$(dirname "$0")/.."
+[ $# -gt 0 ] || { sed -n 3p "$0" >&2; exit 2; }
+folder=$1
+shift
+[ $# -gt 0 ] || set -- 2 3 4
+home=$(cd "$(dirname "$(rt doc)")/.." && pwd -P)
+own=$home/on/$(uname -m)
+tools=$own/toolchain
+emulator=$tools/bin/qemu-x86_64
+room=$(mktemp -d)
+trap 'rm -rf "$room"' EXIT
+rt staticlib exports >"$room/say" 2>&1 || { cat "$room/say" >&2; exit 1; }
+
+compile() { # FILE OBJECT FLAG..
+    "$tools/bin/clang" --target=x86_64-unknown-linux-gnu -O2 -fPIE -Wall -Wextra "${@:3}" -c "$1" -o "$room/$2"
+}
+link() { # PROGRAM FILE..
+    "$own/bin/rattle-link" --target x86_64-unknown-linux-gnu --toolchain "$tools" -o "$room/$1" "${@:2}" >"$room/link" 2>&1
+}
+compile tests/bench/analysis.c ours.o -DCALL=jomankitu_lookahead_sets
+compile tests/bench/analysis.c c.o -DCALL=analyse
+compile tests/bench/engine.c engine.o
+link ours "$room/ours.o" target/staticlib/libexports.a
+link c "$room/c.o" "$room/engine.o"
+loader=("$tools/lib/ld-linux-x86-64.so.2" --library-path "$tools/lib")
+
+run() { # PROGRAM TABLE K C TIMES: the exit status is the refusal
+    if [ -x "$emulator" ]; then "$emulator" "${loader[@]}" "$room/$1" "${@:2}"; else "${loader[@]}" "$room/$1" "${@:2}"; fi
+}
+# from the places where instructions begin, and a trace of blocks with their bytes: how many instructions were run. No block begins one in a second page.
+# An instruction that repeats itself is a block of its own from the second time on, and counts once, as it does on the processor
+counting='
+function low(hex,  i, n) { for (i = length(hex) - 2; i <= length(hex); i++) n = 16 * n + index("0123456789abcdef", substr(hex, i, 1)) - 1; return n }
+function page(hex) { return substr(hex, 1, length(hex) - 3) }
+NR == FNR { begins[page($0), low($0)]; next }
+/^Trace/ { split($0, part, "/"); times[part[2]]++; next }
+/^0x/ { block = substr($1, 3, length($1) - 3); bytes[block] = 0; next }
+/^OBJD-T/ { if (bytes[block] == 0) again[block] = $2 ~ /^f3(48)?a[45ab]/; bytes[block] += length($2) / 2 }
+END {
+    for (place in times) {
+        block = place
+        sub(/^0+/, "", block)
+        if (again[block]) continue
+        size = 0
+        for (at = low(block); at < low(block) + bytes[block]; at++) if ((page(block), at) in begins) size++
+        all += times[place] * size
+    }
+    printf "%.0f\n", all
+}'
+
+count() { # PROGRAM TABLE K C TIMES: the instructions of a run
+    if [ -x "$emulator" ]; then
+        "$emulator" -one-insn-per-tb -d in_asm "${loader[@]}" "$room/$1" "${@:2}" 2>&1 >"$room/out" | sed -n 's/^0x\(.*\):.*/\1/p' >"$room/begins"
+        "$emulator" -d exec,nochain,in_asm "${loader[@]}" "$room/$1" "${@:2}" 2>&1 >"$room/out" | awk "$counting" "$room/begins" -
+    else
+        perf stat -x, -e instructions:u -o "$room/perf" "${loader[@]}" "$room/$1" "${@:2}" >"$room/out"
+        sed -n 's/,.*instructions.*//p' "$room/perf"
+    fi
+}
+an_analysis() { # PROGRAM TABLE K C
+    echo $(($(count "$@" 2) - $(count "$@" 1)))
+}
+refusal() { # TABLE K C
+    local status=0
+    run c "$@" 1 >"$room/out" || status=$?
+    echo $status
+}
+least() { # TABLE K: the least c that serves, or nothing
+    local low=0 high=1024 mid
+    [ "$(refusal "$1" "$2" $high)" = 0 ] || return 0
+    while [ $((low + 1)) -lt $high ]; do
+        mid=$(((low + high) / 2))
+        if [ "$(refusal "$1" "$2" $mid)" = 0 ]; then high=$mid; else low=$mid; fi
+    done
+    echo $high
+}
+printf '%-10s %2s %5s %12s %12s %6s\n' grammar k c ours C ratio
+for table in "$folder"/*.table; do
+    name=$(basename "$table" .table)
+    for k; do
+        c=$(least "$table" "$k")
+        if [ -z "$c" ]; then
+            echo "$name $k: refused $(refusal "$table" "$k" 1024) at c = 1024"
+            continue
+        fi
+        run ours "$table" "$k" "$c" 1 >"$room/one"
+        run c "$table" "$k" "$c" 1 >"$room/two"
+        cmp "$room/one" "$room/two"
+        a=$(an_analysis ours "$table" "$k" "$c") b=$(an_analysis c "$table" "$k" "$c")
+        printf '%-10s %2s %5s %12s %12s %6s\n' "$name" "$k" "$c" "$a" "$b" "$(awk -v a="$a" -v b="$b" 'BEGIN { printf "%.2f", a / b }')"
+    done
+done
