@@ -1,4 +1,4 @@
-/* Calls every function of jomankitu.h and checks what it leaves: the listing of document 01, and some of its exercises. The exit status is 0 if all is
+/* Calls every function of jomankitu.h and checks what it leaves: the listing of the rules, and some of its exercises. The exit status is 0 if all is
    right, else the number of the first check that is not. */
 #include "jomankitu.h"
 

@@ -1,4 +1,4 @@
-/* The engine's call in plain C, after document 01: the measure of its speed. Nothing here is proved, and refusals 1 to 12 alone are tested.
+/* The engine's call in plain C, after the rules: the measure of its speed. Nothing here is proved, and refusals 1 to 12 alone are tested.
    It works as the proved one does: sets in rising order in lent words, products from left to right, rounds up to the first that changes nothing. */
 typedef unsigned long u64;
 typedef unsigned char u8;

@@ -1,4 +1,4 @@
--- Exercises a to l of document 01, and its listing: one table, and one claim about the definitions. Assumes nothing.
+-- Exercises a to l of the rules, and its listing: one table, and one claim about the definitions. Assumes nothing.
 use Prim.Native.Nat.{ℕ}
 use mathlib.Core.List.{List, [], _∷_, map}
 use mathlib.Core.Path.{_≡_, refl}

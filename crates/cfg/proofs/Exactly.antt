@@ -1,4 +1,4 @@
--- The refusals 3 to 7 of a number, of a field, of a symbol and of the whole table, each exactly when document 01 gives it. Assumes nothing.
+-- The refusals 3 to 7 of a number, of a field, of a symbol and of the whole table, each exactly when the rules give it. Assumes nothing.
 use Prim.Native.Nat.{ℕ, _+_, _≤_, _<_}
 use native.Mathlib.Omega.{arith}
 use mathlib.Core.Path.{_≡_, refl, sym, ap, subst, _∙_}

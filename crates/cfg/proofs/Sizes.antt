@@ -57,7 +57,7 @@ module _ (b : List ℕ) (n t : ℕ) where
       let rest = productions-length (i + 1) p ws₁ x ws' next (omega arith) (omega arith) r₁ in
       omega arith
 
--- the limits of document 01 on the sizes of a grammar
+-- the limits of the rules on the sizes of a grammar
 pub record Sizes (g : Grammar) : Type 0 where
   pub some : 1 ≤ g .n
   pub nonterminals : g .n ≤ 128

@@ -73,7 +73,7 @@ pub record LeftOver (b : List ℕ) : Type 0 where
   pub c : List ℕ
   pub bytes : b ≡ writeTable g ++ (x ∷ c)
 
--- the rows 3 to 7 of document 01's table of refusals
+-- the rows 3 to 7 of the rules' table of refusals
 pub data TableRefused (b : List ℕ) : ℕ → Type 0 where
   ends-early : NextNumber Unfinished b → TableRefused b 3
   wrong-number : NextNumber Malformed b → TableRefused b 4

@@ -1,4 +1,4 @@
--- A grammar written as a table, and the limits of a table, in document 01's order. Assumes nothing.
+-- A grammar written as a table, and the limits of a table, in the rules' order. Assumes nothing.
 use Prim.Native.Nat.{ℕ, _+_, _*_, _/_, _%_, _≤_, _<_}
 use mathlib.Core.List.{List, [], _∷_, _++_, map, List·Memᴰ}
 use mathlib.Core.Path.{_≡_, refl}

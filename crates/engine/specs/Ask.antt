@@ -14,7 +14,7 @@ kindStart kind n p = cond (eqb kind 0) 0 (cond (eqb kind 1) n (cond (eqb kind 2)
 unfoldable pub kindCount : ℕ → ℕ → ℕ → ℕ → ℕ
 kindCount kind n p q = cond (eqb kind 0) n (cond (eqb kind 1) p (cond (eqb kind 2) n (cond (eqb kind 3) q 0)))
 
--- The limits of document 01.
+-- The limits of the rules.
 unfoldable pub inLimits : ℕ → ℕ → ℕ → ℕ → Bool
 inLimits n p q c = leb 1 n && (leb n 128 && (leb p 512 && (leb q 4096 && (leb 1 c && leb c 1024))))
 

@@ -1,4 +1,4 @@
--- The column "given exactly when" of document 01 for the public functions on strings: for each function its refusals, in the order of the tests, and the numbers
+-- The column "given exactly when" of the rules for the public functions on strings: for each function its refusals, in the order of the tests, and the numbers
 -- that it answers where none applies; no other refusal is ever given. Assumes nothing.
 use mathlib.Core.Path.{_≡_, refl, ap}
 use mathlib.Core.Bool.{Bool, true, false, not, _&&_, true≢false, false≢true}

@@ -10,7 +10,7 @@ use parol::analysis::{FirstCache, FollowCache, calculate_lookahead_dfas, decidab
 use parol::table::*;
 use std::io::{Read, Write};
 
-/// The rows of one automaton: every path to an accepting state, in document 01's order.
+/// The rows of one automaton: every path to an accepting state, in the rules' order.
 fn rows(dfa: &parol::LookaheadDFA, map: &[(usize, usize)]) -> String {
     let mut found: Vec<(Vec<usize>, i32)> = Vec::new();
     let mut todo = vec![(0usize, Vec::new())];
