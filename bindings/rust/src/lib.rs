@@ -1,0 +1,143 @@
+//! Safe calls over the archive of `rt staticlib exports`, which is for x86-64 Linux. The archive tests everything that it is given and refuses by
+//! number, so these wrappers only turn slices into pointers and lengths, and answers into `Result`s; a refusal's number is the error.
+
+mod raw {
+    unsafe extern "C" {
+        pub fn jomankitu_lookahead_sets(k: u64, c: u64, table: *const u8, table_len: usize, result: *mut u64, result_len: usize, scratch: *mut u64, scratch_len: usize, answer: *mut u64, answer_len: usize) -> u64;
+        pub fn jomankitu_set_of(len: usize, kind: usize, number: usize, n: usize, p: usize, q: usize, c: usize, out: *mut u64, out_len: usize) -> u64;
+        pub fn jomankitu_width(m: u64, out: *mut u64, out_len: usize) -> u64;
+        pub fn jomankitu_eps(m: u64, out: *mut u64, out_len: usize) -> u64;
+        pub fn jomankitu_end(m: u64, out: *mut u64, out_len: usize) -> u64;
+        pub fn jomankitu_make(list: *const u16, list_len: usize, k: u64, m: u64, out: *mut u64, out_len: usize) -> u64;
+        pub fn jomankitu_push(lo: u64, hi: u64, x: u64, out: *mut u64, out_len: usize) -> u64;
+        pub fn jomankitu_cut(lo: u64, hi: u64, k: u64, out: *mut u64, out_len: usize) -> u64;
+        pub fn jomankitu_join(x_lo: u64, x_hi: u64, y_lo: u64, y_hi: u64, k: u64, out: *mut u64, out_len: usize) -> u64;
+        pub fn jomankitu_complete(lo: u64, hi: u64, k: u64, out: *mut u64, out_len: usize) -> u64;
+        pub fn jomankitu_order(x_lo: u64, x_hi: u64, y_lo: u64, y_hi: u64, out: *mut u64, out_len: usize) -> u64;
+        pub fn jomankitu_unpack(lo: u64, hi: u64, out: *mut u64, out_len: usize) -> u64;
+        pub fn jomankitu_union(k: u64, a: *const u64, a_len: usize, b: *const u64, b_len: usize, out: *mut u64, out_len: usize, told: *mut u64, told_len: usize) -> u64;
+        pub fn jomankitu_intersection(k: u64, a: *const u64, a_len: usize, b: *const u64, b_len: usize, out: *mut u64, out_len: usize) -> u64;
+        pub fn jomankitu_disjoint(k: u64, a: *const u64, a_len: usize, b: *const u64, b_len: usize, out: *mut u64, out_len: usize) -> u64;
+        pub fn jomankitu_all_complete(k: u64, a: *const u64, a_len: usize, out: *mut u64, out_len: usize) -> u64;
+        pub fn jomankitu_join_sets(k: u64, a: *const u64, a_len: usize, b: *const u64, b_len: usize, out: *mut u64, out_len: usize) -> u64;
+    }
+}
+
+/// The number of a refusal.
+pub type Refusal = u64;
+
+/// What `told` says, if the number is no refusal.
+fn answer<T>(number: u64, told: T) -> Result<T, Refusal> {
+    if number == 0 { Ok(told) } else { Err(number) }
+}
+
+/// What a call answers: the grammar's sizes, the width of its strings, the rounds of each level (0 for one that was not run) and those of FOLLOW.
+#[derive(Clone, Copy, Debug, PartialEq, Eq)]
+pub struct Lookahead {
+    pub n: u64,
+    pub p: u64,
+    pub q: u64,
+    pub width: u64,
+    pub rounds: [u64; 10],
+    pub follow: u64,
+}
+
+/// FIRST and FOLLOW of a table at k, with room for c members in each set. The sets go to `result`; `scratch` is worked in.
+pub fn lookahead_sets(k: u64, c: u64, table: &[u8], result: &mut [u64], scratch: &mut [u64]) -> Result<Lookahead, Refusal> {
+    let mut a = [0u64; 16];
+    let number = unsafe { raw::jomankitu_lookahead_sets(k, c, table.as_ptr(), table.len(), result.as_mut_ptr(), result.len(), scratch.as_mut_ptr(), scratch.len(), a.as_mut_ptr(), a.len()) };
+    let mut rounds = [0; 10];
+    rounds.copy_from_slice(&a[5..15]);
+    answer(number, Lookahead { n: a[1], p: a[2], q: a[3], width: a[4], rounds, follow: a[15] })
+}
+
+/// The kinds of sets, in the result's order.
+#[derive(Clone, Copy, Debug, PartialEq, Eq)]
+pub enum Kind {
+    First = 0,
+    Production = 1,
+    Follow = 2,
+    Position = 3,
+}
+
+/// The part of a result that holds one set; empty where there is no such set.
+pub fn set_of<'a>(words: &'a [u64], kind: Kind, number: usize, a: &Lookahead, c: usize) -> &'a [u64] {
+    let mut part = [0u64; 2];
+    unsafe { raw::jomankitu_set_of(words.len(), kind as usize, number, a.n as usize, a.p as usize, a.q as usize, c, part.as_mut_ptr(), part.len()) };
+    words.get(part[0] as usize..(part[0] + part[1]) as usize).unwrap_or(&[])
+}
+
+/// A packed string: two words, the low one first.
+#[derive(Clone, Copy, Debug, PartialEq, Eq)]
+pub struct Terminals(pub u64, pub u64);
+
+/// Calls a function that leaves N words.
+fn words<const N: usize>(call: impl FnOnce(*mut u64, usize) -> u64) -> Result<[u64; N], Refusal> {
+    let mut out = [0u64; N];
+    let number = call(out.as_mut_ptr(), N);
+    answer(number, out)
+}
+
+fn string(call: impl FnOnce(*mut u64, usize) -> u64) -> Result<Terminals, Refusal> {
+    words::<2>(call).map(|w| Terminals(w[0], w[1]))
+}
+
+/// The width of strings whose greatest terminal is m.
+pub fn width(m: u64) -> Result<u64, Refusal> {
+    words::<1>(|o, n| unsafe { raw::jomankitu_width(m, o, n) }).map(|w| w[0])
+}
+
+impl Terminals {
+    pub fn eps(m: u64) -> Result<Self, Refusal> {
+        string(|o, n| unsafe { raw::jomankitu_eps(m, o, n) })
+    }
+    pub fn end(m: u64) -> Result<Self, Refusal> {
+        string(|o, n| unsafe { raw::jomankitu_end(m, o, n) })
+    }
+    /// The first k of a list.
+    pub fn make(list: &[u16], k: u64, m: u64) -> Result<Self, Refusal> {
+        string(|o, n| unsafe { raw::jomankitu_make(list.as_ptr(), list.len(), k, m, o, n) })
+    }
+    pub fn push(self, x: u64) -> Result<Self, Refusal> {
+        string(|o, n| unsafe { raw::jomankitu_push(self.0, self.1, x, o, n) })
+    }
+    pub fn cut(self, k: u64) -> Result<Self, Refusal> {
+        string(|o, n| unsafe { raw::jomankitu_cut(self.0, self.1, k, o, n) })
+    }
+    pub fn k_concat(self, other: Self, k: u64) -> Result<Self, Refusal> {
+        string(|o, n| unsafe { raw::jomankitu_join(self.0, self.1, other.0, other.1, k, o, n) })
+    }
+    pub fn is_k_complete(self, k: u64) -> Result<bool, Refusal> {
+        words::<1>(|o, n| unsafe { raw::jomankitu_complete(self.0, self.1, k, o, n) }).map(|w| w[0] == 1)
+    }
+    pub fn order(self, other: Self) -> Result<std::cmp::Ordering, Refusal> {
+        words::<1>(|o, n| unsafe { raw::jomankitu_order(self.0, self.1, other.0, other.1, o, n) }).map(|w| w[0].cmp(&1))
+    }
+    /// The slots, ε as 65,535.
+    pub fn unpack(self) -> Result<Vec<u16>, Refusal> {
+        words::<11>(|o, n| unsafe { raw::jomankitu_unpack(self.0, self.1, o, n) }).map(|w| w[1..1 + w[0] as usize].iter().map(|&s| s as u16).collect())
+    }
+}
+
+/// The union of two sets at k, in `out`; whether it has more members than the first.
+pub fn union(k: u64, a: &[u64], b: &[u64], out: &mut [u64]) -> Result<bool, Refusal> {
+    words::<1>(|o, n| unsafe { raw::jomankitu_union(k, a.as_ptr(), a.len(), b.as_ptr(), b.len(), out.as_mut_ptr(), out.len(), o, n) }).map(|w| w[0] == 1)
+}
+
+/// The members that two sets have in common, in `out`.
+pub fn intersection(k: u64, a: &[u64], b: &[u64], out: &mut [u64]) -> Result<(), Refusal> {
+    answer(unsafe { raw::jomankitu_intersection(k, a.as_ptr(), a.len(), b.as_ptr(), b.len(), out.as_mut_ptr(), out.len()) }, ())
+}
+
+/// The join of two sets at k, in `out`.
+pub fn k_concat(k: u64, a: &[u64], b: &[u64], out: &mut [u64]) -> Result<(), Refusal> {
+    answer(unsafe { raw::jomankitu_join_sets(k, a.as_ptr(), a.len(), b.as_ptr(), b.len(), out.as_mut_ptr(), out.len()) }, ())
+}
+
+pub fn is_disjoint(k: u64, a: &[u64], b: &[u64]) -> Result<bool, Refusal> {
+    words::<1>(|o, n| unsafe { raw::jomankitu_disjoint(k, a.as_ptr(), a.len(), b.as_ptr(), b.len(), o, n) }).map(|w| w[0] == 1)
+}
+
+pub fn is_k_complete(k: u64, a: &[u64]) -> Result<bool, Refusal> {
+    words::<1>(|o, n| unsafe { raw::jomankitu_all_complete(k, a.as_ptr(), a.len(), o, n) }).map(|w| w[0] == 1)
+}
