@@ -1,25 +1,44 @@
-// The public surface: everything that a user may call, and nothing else. No function here asks anything of its caller.
+// The public surface: everything that a user may call, and nothing else. No function here asks anything of its caller: what cannot be answered is
+// refused by number, and its contract says what then stands in every lent word.
 
-// Packed strings.
+// ---- packed strings: `Terminals`, two words by value, with its methods
+//   Terminals::eps(m)              ε, for the greatest terminal m
+//   Terminals::end(m)              the end marker alone
+//   Terminals::make(list, k, m)    the first k of a list, up to and with its first 0
+//   t.push(x)                      one slot more, unless the string has ended
+//   t.cut(k)                       the first k slots
+//   t.k_concat(u, k)               t and then as much of u as k leaves room for
+//   t.is_k_complete(k)             whether k terminals are there, or the end marker
+//   t.cmp(u)                       by length, then by value
+//   t.unpack()                     the length and ten slots, ε as 65,535
 pub use k_tuple::CompleteAnswer;
 pub use k_tuple::OrderAnswer;
 pub use k_tuple::StringAnswer;
 pub use k_tuple::Terminals;
 pub use k_tuple::Unpacked;
 pub use k_tuple::WidthAnswer;
+// How many bits a slot takes, for the greatest terminal m.
 pub use k_tuple::width;
 
-// Sets in lent words.
+// ---- sets in lent words: a count, the members in order, two words each, then zeros
 pub use k_tuples::SetAnswer;
 pub use k_tuples::TestAnswer;
 pub use k_tuples::UnionAnswer;
+// The members that two sets have in common.
 pub use k_tuples::intersection;
+// Whether two sets have no member in common.
 pub use k_tuples::is_disjoint;
+// Whether every member is complete at k.
 pub use k_tuples::is_k_complete;
+// The complete members of the first set, and each other member joined with each of the second.
 pub use k_tuples::k_concat;
+// The members of both sets, and whether that is more than the first has.
 pub use k_tuples::union;
 
-// FIRST and FOLLOW of a table, and one set of them.
+// ---- FIRST and FOLLOW of a table
+// What the call answers: a refusal or 0, the sizes, the width, and the rounds.
 pub use engine::Lookahead;
+// The part of a result that holds one set, by kind and number.
 pub use engine::ask::set_of;
+// FIRST and FOLLOW of a table at k, with room for c members a set, in two lent slices of words.
 pub use engine::lookahead_sets;
