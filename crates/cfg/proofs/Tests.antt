@@ -32,7 +32,7 @@ module _ (ps : List Production) (n : ℕ) (u : Bool) (e : u ≡ unproductive ps 
     tests-passed t = rw (← e, f, ← g, ← h, t)
 
 -- words that are sound below n are sound below any greater number
-below-wider : (n m : ℕ) → n ≤ m → (ss : List Sym) → Below n ss → Below m ss
+pub below-wider : (n m : ℕ) → n ≤ m → (ss : List Sym) → Below n ss → Below m ss
 below-wider n m h [] b = tt
 below-wider n m h (nonterminal i ∷ ss) b = (omega (arith, b .0), below-wider n m h ss (b .1))
 below-wider n m h (terminal x ∷ ss) b = below-wider n m h ss b

@@ -18,8 +18,8 @@ use Rattle.first.specs.Steps.{resultSets, oldSets, pastResult, pastScratch, roo
 use Rattle.first.specs.Rounds.{grammarIn}
 use Rattle.first.specs.Levels.{Production, Produced}
 use Rattle.follow_theory.specs.Follow.{occurrencesOf, follow, positionSets}
-use Rattle.follow.specs.declared.round.Ending.{Ending}
-use Rattle.follow.specs.declared.round.Ending.the-variants.{Settled, Refused}
+use Rattle.first.specs.declared.Ending.{Ending}
+use Rattle.first.specs.declared.Ending.the-variants.{Settled, Refused}
 use Rattle.follow.specs.Steps.{Grammatical, firstSets}
 use Rattle.follow.specs.Whole.{Positioned, PositionsDone}
 use Rattle.engine.specs.declared.Lookahead.{Lookahead}

@@ -14,8 +14,8 @@ use Rattle.follow_theory.specs.Follow.{occurrencesOf, follow, positionSets}
 use Rattle.first.specs.declared.Setup.{Setup}
 use Rattle.first.specs.Steps.{oldSets, pastResult, pastScratch, room, Ready}
 use Rattle.first.specs.Rounds.{grammarIn, Rules}
-use Rattle.follow.specs.declared.round.Ending.{Ending}
-use Rattle.follow.specs.declared.round.Ending.the-variants.{Settled, Refused}
+use Rattle.first.specs.declared.Ending.{Ending}
+use Rattle.first.specs.declared.Ending.the-variants.{Settled, Refused}
 use Rattle.engine.specs.declared.Lookahead.{Lookahead}
 use Rattle.engine.specs.declared.Shape.{Shape}
 use Rattle.engine.specs.Call.{answerOf}

@@ -10,11 +10,12 @@ ghost use Rattle.engine.specs.Runs.{setupOf, toldOf, Begun, RestRan};
 use cfg::accept::read_grammar;
 use cfg::table::TableAnswer;
 use cfg::table::count_occurrences;
+use cfg::wide;
+use first::Ending;
 use first::Setup;
 use first::level::first_levels;
 use first::production::first_productions;
 use follow::follow_all;
-use follow::round::Ending;
 use k_tuple::parts::width_for;
 use k_tuples::set::index;
 
@@ -61,12 +62,6 @@ fn wipe(words: &mut [u64], needed: usize)
     ensures { λ _. ⌜ now (words .exit) ≡ wiped needed (now (words .entry)) ⌝ }
 {
     k_tuples::set::clear(&mut words[..needed]);
-}
-
-fn wide(x: u16) -> usize
-    ensures { λ r. ⌜ r ≡ x ⌝ }
-{
-    x as usize
 }
 
 // The words that so many sets take.

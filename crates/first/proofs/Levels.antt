@@ -20,8 +20,8 @@ use Rattle.first_theory.specs.Compute.{Worked, round, level, levels, first}
 use Rattle.first.specs.declared.Setup.{Setup}
 use Rattle.first.specs.declared.round.Round.{Round}
 use Rattle.first.specs.declared.round.Round.the-variants.{Same, Changed, Full}
-use Rattle.first.specs.declared.level.Level.{Level}
-use Rattle.first.specs.declared.level.Level.the-variants.{Settled, Refused}
+use Rattle.first.specs.declared.Ending.{Ending}
+use Rattle.first.specs.declared.Ending.the-variants.{Settled, Refused}
 use Rattle.first.specs.declared.level.LevelRounds.{LevelRounds}
 use Rattle.first.specs.Steps.{resultSets, oldSets, room, Ready}
 use Rattle.first.specs.Rounds.{grammarIn, InResult, roundFull, roundTold, RoundDone, Rounded}
@@ -235,7 +235,7 @@ module _ {u : Setup} {at k : ℕ} {words result₀ scratch₀ : List ℕ} {i : �
       }
 
   -- one level more
-  module _ (more : i < k) (number : ℕ) (same : number ≡ suc i) {r : Level} {result′ scratch′ : List ℕ}
+  module _ (more : i < k) (number : ℕ) (same : number ≡ suc i) {r : Ending} {result′ scratch′ : List ℕ}
       (m : Levelled u at number (level (room u) (grammarIn u words) number (oldSets u result)) r result scratch result′ scratch′) where
     level-next : levelsFrom u words k 0 (oldSets u result₀) ≡ levelThen u words (k - (i + 1)) (suc i) (take i rounds) (level (room u) (grammarIn u words) number (oldSets u result))
     unfolding levels
@@ -244,8 +244,8 @@ module _ {u : Setup} {at k : ℕ} {words result₀ scratch₀ : List ℕ} {i : �
         run .to-come ∙ ap (λ (left : ℕ). behind (take i rounds) (levelsFrom u words left i (oldSets u result))) one
         ∙ ap (λ (q : ℕ). levelThen u words (k - (i + 1)) (suc i) (take i rounds) (level (room u) (grammarIn u words) q (oldSets u result))) (sym same)
 
-    ends-as : (s : Level) → r ≡ s → LevelEnds u at number (level (room u) (grammarIn u words) number (oldSets u result)) s result scratch result′ scratch′
-    ends-as s q = subst (λ (r : Level). LevelEnds u at number (level (room u) (grammarIn u words) number (oldSets u result)) r result scratch result′ scratch′) q (m .ends)
+    ends-as : (s : Ending) → r ≡ s → LevelEnds u at number (level (room u) (grammarIn u words) number (oldSets u result)) s result scratch result′ scratch′
+    ends-as s q = subst (λ (r : Ending). LevelEnds u at number (level (room u) (grammarIn u words) number (oldSets u result)) r result scratch result′ scratch′) q (m .ends)
 
     pub run-refused : (e : ℕ) → r ≡ Refused e → LevelsRun u at k (levelsFrom u words k 0 (oldSets u result₀)) (record { refusal = e; rounds = replicate 10 0 }) result₀ scratch₀ result′ scratch′
     run-refused e q =

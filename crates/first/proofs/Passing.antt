@@ -1,13 +1,14 @@
 -- Going from one production to the next in words that the table's reader has made: each right side is in range. Assumes nothing.
 use mathlib.Core.Path.{_≡_, refl}
-use mathlib.Core.List.{List, [], _∷_, map, List·Memᴰ, List·Memᴰ·head, List·Memᴰ·tail}
+use mathlib.Core.List.{List, _∷_, map, List·Memᴰ, List·Memᴰ·head, List·Memᴰ·tail}
 use Prim.Native.Nat.{ℕ, _+_, _-_, _≤_, _<_}
 use native.Mathlib.Omega.{arith}
 use lib.ListN.{getD, take, drop}
 use Rattle.cfg.specs.declared.table.Span.{Span}
-use Rattle.cfg.specs.Grammar.{Sym, nonterminal, terminal, Production}
+use Rattle.cfg.specs.Grammar.{Sym, Production}
 use Rattle.cfg.specs.Written.{symbolOf, productionsOf}
-use Rattle.cfg.specs.Words.{Below, SoundHead, SpanAt}
+use Rattle.cfg.specs.Words.{SoundHead, SpanAt}
+use Rattle.cfg.proofs.Tests.{below-wider}
 use Rattle.cfg.proofs.Cursor.{Cursor, cursor-start, cursor-next, head, span-first}
 use Rattle.first.specs.declared.Setup.{Setup}
 use Rattle.first.specs.Steps.{sizes, Symbols}
@@ -27,18 +28,13 @@ pass-start {u} {words} rules =
       ranged = rw all (λ q m. range-same (grammarIn u words) (sizes u) (q .right) refl refl (rules .ranged .rules m .1));
     }
 
-below-more : (n : ℕ) (ss : List Sym) → n ≤ 128 → Below n ss → Below 128 ss
-below-more n [] h b = tt
-below-more n (nonterminal i ∷ ss) h b = (omega (arith, b .0), below-more n ss h (b .1))
-below-more n (terminal x ∷ ss) h b = below-more n ss h b
-
 module _ {u : Setup} {words : List ℕ} {i place : ℕ} (pass : Passing u words i place) (more : i < u .p) where
   -- what is asked of the words there
   pub pass-head : u .n ≤ 128 → SoundHead 128 (drop place words)
   pass-head h =
       let s = head (u .n) (u .p) words i place (pass .cursor) more in
       let ws = drop place words in
-      record { whole = s .whole; left = omega (arith, s .left); right = below-more (u .n) (map symbolOf (take (getD ws 1 0) (drop 2 ws))) h (s .right) }
+      record { whole = s .whole; left = omega (arith, s .left); right = below-wider (u .n) 128 h (map symbolOf (take (getD ws 1 0) (drop 2 ws))) (s .right) }
 
   module _ (span : Span) (s : SpanAt words place span) where
     abbrev pub rightAt : List Sym

@@ -10,8 +10,8 @@ use Rattle.blocks.specs.Stores.{Turned}
 use Rattle.first_theory.specs.Compute.{Worked}
 use Rattle.first.specs.declared.Setup.{Setup}
 use Rattle.first.specs.declared.level.LevelRounds.{LevelRounds}
-use Rattle.first.specs.declared.level.Level.{Level}
-use Rattle.first.specs.declared.level.Level.the-variants.{Settled, Refused}
+use Rattle.first.specs.declared.Ending.{Ending}
+use Rattle.first.specs.declared.Ending.the-variants.{Settled, Refused}
 use Rattle.first.specs.Steps.{resultSets, oldSets, pastResult, pastScratch}
 use Rattle.first.specs.Rounds.{newSets, InResult, InScratch}
 
@@ -21,12 +21,12 @@ pub record Moved (u : Setup) (at k : ℕ) (result scratch result′ scratch′ :
   pub in-scratch : InScratch u k (newSets u scratch′) scratch scratch′
 
 -- the sets settled after so many rounds, and the result has got them; or the answer is a refusal
-abbrev pub LevelEnds : Setup → (at k : ℕ) → Answer Settling → Level → (result scratch result′ scratch′ : List ℕ) → Type 0
+abbrev pub LevelEnds : Setup → (at k : ℕ) → Answer Settling → Ending → (result scratch result′ scratch′ : List ℕ) → Type 0
 LevelEnds u at k answer (Settled rounds) result scratch result′ scratch′ =
     (answer ≡ got (record { sets = oldSets u result′; rounds = rounds })) × Moved u at k result scratch result′ scratch′
 LevelEnds u at k answer (Refused e) result scratch result′ scratch′ = (answer ≡ refused e) × (1 ≤ e)
 
-pub record Levelled (u : Setup) (at k : ℕ) (answer : Answer Settling) (r : Level) (result scratch result′ scratch′ : List ℕ) : Type 0 where
+pub record Levelled (u : Setup) (at k : ℕ) (answer : Answer Settling) (r : Ending) (result scratch result′ scratch′ : List ℕ) : Type 0 where
   pub ends : LevelEnds u at k answer r result scratch result′ scratch′
   pub result-beyond : pastResult u result′ ≡ pastResult u result
   pub scratch-beyond : pastScratch u scratch′ ≡ pastScratch u scratch

@@ -10,16 +10,11 @@ ghost use Rattle.first_theory.specs.Compute.{level, levels, first};
 ghost use Rattle.first.specs.Steps.{Ready, Free, resultSets, oldSets, room};
 ghost use Rattle.first.specs.Rounds.{Rules, grammarIn};
 ghost use Rattle.first.specs.Levels.{Levelled, LevelsRun};
+use crate::Ending;
 use crate::Setup;
 use crate::round::Round;
 use crate::round::first_round;
 use k_tuple::well::eps;
-
-// How a level ends: settled after so many rounds, or with a refusal.
-pub enum Level {
-    Settled(u64),
-    Refused(u64),
-}
 
 // Rounds, up to the first whose sets equal those before it, which counts; at most n + 1.
 pub fn first_level(
@@ -29,7 +24,7 @@ pub fn first_level(
     at: usize,
     k: u64,
     words: &[u16],
-) -> Level
+) -> Ending
     requires { ⌜ (Ready u k (now result) (now scratch) × Free u at) × Rules u (now words) ⌝ }
     ensures { λ r. ⌜ Levelled u at k (level (room u) (grammarIn u (now (words .entry))) k (oldSets u (now (result .entry)))) r (now (result .entry)) (now (scratch .entry)) (now (result .exit)) (now (scratch .exit)) ⌝ }
 {
@@ -39,18 +34,18 @@ pub fn first_level(
         let r = first_round(result, scratch, u, at, k, words);
         match r {
             Round::Full => {
-                return Level::Refused(11);
+                return Ending::Refused(11);
             }
             Round::Same => {
                 let rounds = done + 1;
-                return Level::Settled(rounds);
+                return Ending::Settled(rounds);
             }
             Round::Changed => {}
         }
         left -= 1;
         done += 1;
     }
-    Level::Refused(12)
+    Ending::Refused(12)
 }
 
 // Makes the set of each nonterminal {ε}.
@@ -97,14 +92,14 @@ fn run_levels(
     while i < k {
         let l = first_level(result, scratch, u, at, level_after(i), words);
         match l {
-            Level::Refused(e) => {
+            Ending::Refused(e) => {
                 let none = [0; 10];
                 return LevelRounds {
                     refusal: e,
                     rounds: none,
                 };
             }
-            Level::Settled(r) => {
+            Ending::Settled(r) => {
                 rounds[i] = r;
             }
         }

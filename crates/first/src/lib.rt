@@ -17,3 +17,9 @@ pub struct Setup {
     pub ssets: usize,
     pub w: u64,
 }
+
+// How rounds end: settled after so many, or with a refusal.
+pub enum Ending {
+    Settled(u64),
+    Refused(u64),
+}

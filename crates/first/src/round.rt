@@ -1,5 +1,4 @@
 // A round of FIRST: the product of each production is added to the new set of its left side, and the new sets take the place of the old ones.
-ghost use mathlib.Core.Path.{_≡_};
 ghost use mathlib.Core.List.{map};
 ghost use Prim.Native.Nat.{_<_};
 ghost use Rattle.cfg.specs.Written.{symbolOf, productionsOf};
@@ -9,6 +8,7 @@ ghost use Rattle.first.specs.Rounds.{newSets, addOne, Extended, Rules, g
 use crate::Setup;
 use crate::right::first_of_right_side;
 use cfg::table::span_at;
+use cfg::wide;
 use k_tuples::set::is_full;
 
 // Adds the product of a right side to the new set of its left side. Says whether a set was too large.
@@ -29,12 +29,6 @@ fn add_production(
     }
     let grown = blocks::unite_block(scratch, result, u.b, u.ssets, u.rsets, at, left);
     is_full(grown)
-}
-
-fn wide(x: u16) -> usize
-    ensures { λ r. ⌜ r ≡ x ⌝ }
-{
-    x as usize
 }
 
 // Adds the product of each production to the new set of its left side. Says whether a set was too large.

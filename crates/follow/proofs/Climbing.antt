@@ -18,7 +18,7 @@ use Rattle.blocks.proofs.Stores.{turned-beyond, turned-length}
 use Rattle.first.specs.declared.Setup.{Setup}
 use Rattle.first.specs.Steps.{oldSets, room}
 use Rattle.follow_theory.specs.Follow.{takeAll}
-use Rattle.follow.specs.declared.round.Ending.the-variants.{Settled, Refused}
+use Rattle.first.specs.declared.Ending.the-variants.{Settled, Refused}
 use Rattle.follow.specs.Steps.{firstSets, followSets, placeSets, occurrences, Stands, Running, roundTold, RoundDone, Rounded, Ended}
 use Rattle.follow.proofs.Growing.{settle-over, settle-end, settle-next}
 use Rattle.follow.proofs.Standing.{stands-start, row-first, row-follow, row-places, row-old, stands-then, still-running}

@@ -12,8 +12,8 @@ use Rattle.first.specs.Steps.{oldSets, room, Ready}
 use Rattle.first.proofs.Walk.{still-ready}
 use Rattle.follow_theory.specs.Equations.{start}
 use Rattle.follow_theory.specs.Follow.{takeAll, follow, positionSets}
-use Rattle.follow.specs.declared.round.Ending.{Ending}
-use Rattle.follow.specs.declared.round.Ending.the-variants.{Settled, Refused}
+use Rattle.first.specs.declared.Ending.{Ending}
+use Rattle.first.specs.declared.Ending.the-variants.{Settled, Refused}
 use Rattle.follow.specs.Suffixes.{Suffixes}
 use Rattle.follow.specs.Steps.{firstSets, followSets, placeSets, occurrences, Grammatical, InRow, Stands, Suffixed, Running, Begins, Started, Ended, Passed}
 use Rattle.follow.specs.Whole.{followOf, positionsOf, FollowDone, FollowEnds, Followed, PositionEnds, Positioned}

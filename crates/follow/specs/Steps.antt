@@ -22,8 +22,8 @@ use Rattle.first.specs.Rounds.{Rules}
 use Rattle.follow_theory.specs.Equations.{start}
 use Rattle.follow_theory.specs.Follow.{Occurrence, occurrencesOf}
 use Rattle.follow.specs.Suffixes.{Suffixes}
-use Rattle.follow.specs.declared.round.Ending.{Ending}
-use Rattle.follow.specs.declared.round.Ending.the-variants.{Settled, Refused}
+use Rattle.first.specs.declared.Ending.{Ending}
+use Rattle.first.specs.declared.Ending.the-variants.{Settled, Refused}
 
 -- ---- the layout
 

@@ -8,8 +8,8 @@ use Rattle.k_tuples.specs.Blocks.{IsStored}
 use Rattle.first.specs.declared.Setup.{Setup}
 use Rattle.first.specs.Steps.{pastResult, pastScratch, oldSets, room}
 use Rattle.follow_theory.specs.Follow.{follow, positionSets}
-use Rattle.follow.specs.declared.round.Ending.{Ending}
-use Rattle.follow.specs.declared.round.Ending.the-variants.{Settled, Refused}
+use Rattle.first.specs.declared.Ending.{Ending}
+use Rattle.first.specs.declared.Ending.the-variants.{Settled, Refused}
 use Rattle.follow.specs.Suffixes.{Suffixes}
 use Rattle.first.specs.Rounds.{grammarIn}
 use Rattle.follow.specs.Steps.{firstSets, occurrences, InRow}

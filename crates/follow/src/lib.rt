@@ -12,9 +12,9 @@ ghost use Rattle.follow.specs.Steps.{Grammatical};
 ghost use Rattle.follow.specs.Whole.{Followed, Positioned};
 use crate::begin::start_follow;
 use crate::place::make_positions;
-use crate::round::Ending;
 use crate::round::follow_rounds;
 use crate::suffix::make_suffixes;
+use first::Ending;
 use first::Setup;
 
 // FOLLOW of the nonterminals. The positions keep their suffix sets.

@@ -6,6 +6,7 @@ ghost use Rattle.follow_theory.specs.Follow.{takeAll};
 ghost use Rattle.follow.specs.Steps.{Running, At, Copied, JoinedIn, Taken, Rounded, Ended, occurrences, followSets};
 use crate::walk::next;
 use crate::walk::start;
+use first::Ending;
 use first::Setup;
 use k_tuples::set::Grown;
 
@@ -97,12 +98,6 @@ fn follow_round(result: &mut [u64], scratch: &mut [u64], u: Setup, k: u64, words
         return Grown::Added;
     }
     Grown::Same
-}
-
-// How the rounds end: settled after so many, or with a refusal.
-pub enum Ending {
-    Settled(u64),
-    Refused(u64),
 }
 
 // Rounds, up to the first that adds nothing, which counts. Every round before it adds a string, so n times the room, and one, are enough.

@@ -4,6 +4,7 @@ ghost use mathlib.Core.Path.{_≡_};
 ghost use lib.ListN.{length};
 ghost use Rattle.follow.specs.Walk.{Goes, Met, toCome, startOf};
 use cfg::table::span_at;
+use cfg::wide;
 
 // A place on the way. The symbols from at to end are left of a right side, whose left side is source, and so many productions stand behind
 // them. The nonterminal that was met last is target.
@@ -13,12 +14,6 @@ pub struct Walk {
     pub source: usize,
     pub target: usize,
     pub behind: usize,
-}
-
-fn wide(x: u16) -> usize
-    ensures { λ r. ⌜ r ≡ x ⌝ }
-{
-    x as usize
 }
 
 // Before the first of p productions.
