@@ -4,17 +4,20 @@ use mathlib.Core.Bool.{Bool, true, false, cond, _&&_}
 use mathlib.Core.List.{List, [], _∷_}
 use mathlib.Core.Path.{_≡_, refl, sym, ap, _∙_, subst}
 use lib.Dec.{leb, leb→le, le→leb}
+use lib.ListN.{length}
 use Rattle.cfg.specs.Grammar.{nonterminal, Grammar, Productive, LeftRecursive, Accepted}
 use Rattle.cfg.specs.Reading.{Reading, got as read, refused as unread, _then_}
 use Rattle.cfg.specs.Table.{readTable}
-use Rattle.cfg.proofs.Refusals.{table-refusals}
+use Rattle.cfg.specs.Write.{Bytes}
+use Rattle.cfg.proofs.RoundTrip.{written-read, read-written}
+use Rattle.cfg.proofs.Exactly.{table-refused, refused-by}
 use Rattle.cfg.specs.Accept.{acceptTable, testRefusal, passes}
 use Rattle.cfg.proofs.Meaning.{TableRead, table-read, Tested, unproductive-eight, left-recursive-nine, passed-none, tested}
 use Rattle.k_tuples.specs.Work.{Answer, got, refused, _>>=_, _>>_, demand}
 use Rattle.k_tuples.proofs.Work.{not-got}
 use Rattle.k_tuples.proofs.Tests.{passed, fails, and-left, and-right, and-both, holds, unpassed}
 use Rattle.analysis.specs.Analysis.{Analysis, work, accepts, analyse, resultNeeds, scratchNeeds}
-use Rattle.analysis.specs.Promises.{SomePasses, EnoughRoom, Between, Reads, AllProductive, EnoughWords, Verdict, AnswersAll, OneAnswer}
+use Rattle.analysis.specs.Promises.{SomePasses, EnoughRoom, Between, IsTableOf, AllProductive, EnoughWords, Verdict, AnswersAll, OneAnswer}
 use Rattle.analysis.proofs.Kept.{not-refused, answers-right, only-eleven, eleven-exactly}
 use Rattle.analysis.proofs.One.{answers-one}
 
@@ -28,7 +31,7 @@ module _ (k c : ℕ) (table : List ℕ) (result scratch : ℕ) where
   abbrev Is : Answer Analysis → Type 0
   Is = Verdict k c table result scratch
 
-  module _ (hk : Between 1 10 k) (hc : Between 1 1024 c) (g : Grammar) (reads : Reads table g) where
+  module _ (hk : Between 1 10 k) (hc : Between 1 1024 c) (g : Grammar) (reads : IsTableOf g table) where
     on-work : Accepted g → EnoughWords g c result scratch → Is (work k c g)
     on-work ok words = by (work k c g) refl
       where
@@ -57,24 +60,25 @@ module _ (k c : ℕ) (table : List ℕ) (result scratch : ℕ) where
     on-tests next t r (left-recursive-nine p l) = Verdict.left-recursive hk hc reads p l
     on-tests next t r (passed-none p l) = on-words (record { ranged = t .ranged; productive = p; not-left-recursive = l })
 
-  on-table : Between 1 10 k → Between 1 1024 c → Is (accepts (acceptTable table) >>= (λ g. demand 10 (leb (resultNeeds c g) result && leb (scratchNeeds c g) scratch) >> work k c g))
+  on-table : Bytes table → Between 1 10 k → Between 1 1024 c → Is (accepts (acceptTable table) >>= (λ g. demand 10 (leb (resultNeeds c g) result && leb (scratchNeeds c g) scratch) >> work k c g))
   unfolding acceptTable
-  on-table hk hc = by (readTable table) refl
+  on-table bytes hk hc = by (readTable table) refl
     where
       by : (r : Reading Grammar) → readTable table ≡ r
           → Is (accepts (r then λ g next. passes (testRefusal (g .productions) (g .n)) g next) >>= (λ g. demand 10 (leb (resultNeeds c g) result && leb (scratchNeeds c g) scratch) >> work k c g))
-      by (unread r) e = Verdict.bad-table hk hc e (table-refusals table r e)
+      by (unread r) e = Verdict.bad-table hk hc (table-refused table bytes r .0 e)
       by (read g next) e =
           let t = table-read table g next e in
-          on-tests hk hc g (next, e) next t (testRefusal (g .productions) (g .n)) (tested g (t .numbered))
+          let (written, limits) = read-written table bytes g next e in
+          on-tests hk hc g (record { written = written; limits = limits }) next t (testRefusal (g .productions) (g .n)) (tested g (t .numbered))
 
 pub answers-all : AnswersAll
 unfolding analyse
-answers-all k c table result scratch = on-k (leb 1 k && leb k 10) refl
+answers-all k c table result scratch bytes = on-k (leb 1 k && leb k 10) refl
   where
     on-c : Between 1 10 k → (b : Bool) → (leb 1 c && leb c 1024) ≡ b
         → Verdict k c table result scratch (demand 2 b >> (accepts (acceptTable table) >>= (λ g. demand 10 (leb (resultNeeds c g) result && leb (scratchNeeds c g) scratch) >> work k c g)))
-    on-c hk true e = on-table k c table result scratch hk (both-le 1 c c 1024 e)
+    on-c hk true e = on-table k c table result scratch bytes hk (both-le 1 c c 1024 e)
     on-c hk false e = Verdict.bad-room hk (not-both-le 1 c c 1024 e)
 
     on-k : (b : Bool) → (leb 1 k && leb k 10) ≡ b
@@ -92,9 +96,13 @@ not-le-both a b c d h =
     unpassed (leb a b && leb c d) (λ t. h (leb→le a b (and-left (leb a b) (leb c d) t), leb→le c d (and-right (leb a b) (leb c d) t)))
 
 -- the tests' answer, from what they test
-module _ (table : List ℕ) (g : Grammar) (reads : Reads table g) where
+module _ (table : List ℕ) (g : Grammar) (is : IsTableOf g table) where
+  -- what is written is read
+  reads : readTable table ≡ read g (length table)
+  reads = rw (is .written) (written-read g (is .limits))
+
   t : TableRead g
-  t = table-read table g (reads .0) (reads .1)
+  t = table-read table g (length table) reads
 
   abbrev Answer-is : ℕ → Type 0
   Answer-is i = testRefusal (g .productions) (g .n) ≡ i
@@ -127,24 +135,24 @@ pub one-answer : OneAnswer
 unfolding analyse acceptTable
 one-answer k c table result scratch m (Verdict.bad-k h) = rw (not-le-both 1 k k 10 h)
 one-answer k c table result scratch m (Verdict.bad-room hk h) = rw (le-both 1 k k 10 hk, not-le-both 1 c c 1024 h)
-one-answer k c table result scratch m (Verdict.bad-table hk hc e _) = rw (le-both 1 k k 10 hk, le-both 1 c c 1024 hc, e)
-one-answer k c table result scratch m (Verdict.unproductive {g = g} hk hc reads h) =
-    rw (le-both 1 k k 10 hk, le-both 1 c c 1024 hc, reads .1, is-eight table g reads h)
-one-answer k c table result scratch m (Verdict.left-recursive {g = g} hk hc reads p l) =
-    rw (le-both 1 k k 10 hk, le-both 1 c c 1024 hc, reads .1, is-nine table g reads p l)
-one-answer k c table result scratch m (Verdict.few-words {g = g} hk hc reads ok h) =
-    rw (le-both 1 k k 10 hk, le-both 1 c c 1024 hc, reads .1, is-none table g reads ok, not-le-both (resultNeeds c g) result (scratchNeeds c g) scratch h)
-one-answer k c table result scratch m (Verdict.no-room {g = g} hk hc reads ok h o) =
+one-answer k c table result scratch m (Verdict.bad-table {r = r} hk hc h) = rw (le-both 1 k k 10 hk, le-both 1 c c 1024 hc, refused-by table r h)
+one-answer k c table result scratch m (Verdict.unproductive {g = g} hk hc written h) =
+    rw (le-both 1 k k 10 hk, le-both 1 c c 1024 hc, reads table g written, is-eight table g written h)
+one-answer k c table result scratch m (Verdict.left-recursive {g = g} hk hc written p l) =
+    rw (le-both 1 k k 10 hk, le-both 1 c c 1024 hc, reads table g written, is-nine table g written p l)
+one-answer k c table result scratch m (Verdict.few-words {g = g} hk hc written ok h) =
+    rw (le-both 1 k k 10 hk, le-both 1 c c 1024 hc, reads table g written, is-none table g written ok, not-le-both (resultNeeds c g) result (scratchNeeds c g) scratch h)
+one-answer k c table result scratch m (Verdict.no-room {g = g} hk hc written ok h o) =
     rw (
       le-both 1 k k 10 hk,
       le-both 1 c c 1024 hc,
-      reads .1,
-      is-none table g reads ok,
+      reads table g written,
+      is-none table g written ok,
       le-both (resultNeeds c g) result (scratchNeeds c g) scratch h,
       eleven-exactly g k c ok (hk .0) (hc .0) .1 o,
     )
-one-answer k c table result scratch m (Verdict.analysed {g = g} {a = a} hk hc reads ok h enough is) =
+one-answer k c table result scratch m (Verdict.analysed {g = g} {a = a} hk hc written ok h enough is) =
     let (b, e) = not-refused g k c ok (hk .0) (hc .0) enough in
     rw
-    (le-both 1 k k 10 hk, le-both 1 c c 1024 hc, reads .1, is-none table g reads ok, le-both (resultNeeds c g) result (scratchNeeds c g) scratch h, e)
+    (le-both 1 k k 10 hk, le-both 1 c c 1024 hc, reads table g written, is-none table g written ok, le-both (resultNeeds c g) result (scratchNeeds c g) scratch h, e)
     (ap got (answers-one g k c a b is (answers-right g k c ok (hk .0) (hc .0) b e)))

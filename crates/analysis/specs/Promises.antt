@@ -5,8 +5,8 @@ use mathlib.Core.Logic.{_↔_, _⊎_}
 use mathlib.Core.Path.{_≡_}
 use lib.ListN.{length, replicate}
 use Rattle.cfg.specs.Grammar.{Sym, nonterminal, Word, Grammar, Production, Productive, LeftRecursive, Accepted}
-use Rattle.cfg.specs.Reading.{got as read, refused as unread}
-use Rattle.cfg.specs.Table.{readTable}
+use Rattle.cfg.specs.Write.{writeTable, Bytes, Limits}
+use Rattle.cfg.specs.Refused.{TableRefused}
 use Rattle.k_tuple.specs.Strings.{Str, eps, ones, widthOf}
 use Rattle.k_tuples.specs.Sets.{_∈_, Sorted, Proper}
 use Rattle.k_tuples.specs.States.{State, setOf, _⊑_, size, Each}
@@ -40,9 +40,12 @@ FirstSets g k a = (A : ℕ) → A < g .n → IsSetOf (First g k (nonterminal A �
 abbrev pub FirstSetsByAhoUllman : Grammar → ℕ → Analysis → Type 0
 FirstSetsByAhoUllman g k a = (A : ℕ) → A < g .n → IsSetOf (AhoUllman g k (nonterminal A ∷ [])) (setOf (a .nonterminals) A)
 
--- FIRST of a production is that of its right side.
+-- FIRST of a production is that of its right side; and as Aho and Ullman have it.
 abbrev pub ProductionSets : Grammar → ℕ → Analysis → Type 0
 ProductionSets g k a = Each (λ (p : Production). IsSetOf (First g k (p .right))) (g .productions) (a .productions)
+
+abbrev pub ProductionSetsByAhoUllman : Grammar → ℕ → Analysis → Type 0
+ProductionSetsByAhoUllman g k a = Each (λ (p : Production). IsSetOf (AhoUllman g k (p .right))) (g .productions) (a .productions)
 
 -- FOLLOW is the least solution of its equations.
 abbrev pub FollowSets : Grammar → ℕ → Analysis → Type 0
@@ -54,23 +57,23 @@ PositionSets g k a = Each (λ (o : Occurrence). IsSetOf (AtPosition g k (o .sour
 
 -- ---- the rounds
 
--- Each level's count is that of its first round whose sets equal those before it, and is at most n + 1.
-pub record LevelRounds (g : Grammar) (k c : ℕ) (a : Analysis) : Type 0 where
-  pub counted : Counted c g 0 (replicate (g .n) (eps ∷ [])) (a .rounds) (a .nonterminals)
-  pub one-each : length (a .rounds) ≡ k
-  pub few : (r : ℕ) → r ∈ a .rounds → r ≤ suc (g .n)
+-- Each level's count is that of its first round whose sets equal those before it, the last level's last sets are X, and each count is at most n + 1.
+pub record LevelRounds (g : Grammar) (k c : ℕ) (rounds : List ℕ) (X : State) : Type 0 where
+  pub counted : Counted c g 0 (replicate (g .n) (eps ∷ [])) rounds X
+  pub one-each : length rounds ≡ k
+  pub few : (r : ℕ) → r ∈ rounds → r ≤ suc (g .n)
 
--- So is FOLLOW's, and it is at most the members of all final FOLLOW sets together.
-pub record FollowRounds (g : Grammar) (k c : ℕ) (a : Analysis) : Type 0 where
-  pub counted : Settles (takeAll c k (a .nonterminals) (occurrencesOf (g .productions))) (start (g .n) (g .start)) (a .followRounds) (a .follows)
-  pub few : a .followRounds ≤ size (a .follows)
+-- So is FOLLOW's, over the FIRST sets X, and it is at most the members of all final FOLLOW sets F together.
+pub record FollowRounds (g : Grammar) (k c : ℕ) (X : State) (rounds : ℕ) (F : State) : Type 0 where
+  pub counted : Settles (takeAll c k X (occurrencesOf (g .productions))) (start (g .n) (g .start)) rounds F
+  pub few : rounds ≤ size F
 
--- The equations taken in any order, each any number of times, stay within the FOLLOW sets, and once none adds a string they are these.
-pub record AnyOrder (g : Grammar) (k c : ℕ) (a : Analysis) : Type 0 where
+-- The equations over X taken in any order, each any number of times, stay within the FOLLOW sets F, and once none adds a string they are these.
+pub record AnyOrder (g : Grammar) (k c : ℕ) (X F : State) : Type 0 where
   pub equations : List Equation
-  pub computed : equationsFor c k (a .nonterminals) (occurrencesOf (g .productions)) ≡ got equations
-  pub within : (F : State) → Reached k (g .n) (g .start) equations F → F ⊑ a .follows
-  pub settled : (F : State) → Reached k (g .n) (g .start) equations F → Settled k equations F → F ≡ a .follows
+  pub computed : equationsFor c k X (occurrencesOf (g .productions)) ≡ got equations
+  pub within : (G : State) → Reached k (g .n) (g .start) equations G → G ⊑ F
+  pub settled : (G : State) → Reached k (g .n) (g .start) equations G → Settled k equations G → G ≡ F
 
 -- ---- the numbers
 
@@ -101,11 +104,12 @@ pub record Analysed (g : Grammar) (k c : ℕ) (a : Analysis) : Type 0 where
   pub first-sets : FirstSets g k a
   pub first-sets-by-aho-ullman : FirstSetsByAhoUllman g k a
   pub production-sets : ProductionSets g k a
+  pub production-sets-by-aho-ullman : ProductionSetsByAhoUllman g k a
   pub follow-sets : FollowSets g k a
   pub position-sets : PositionSets g k a
-  pub level-rounds : LevelRounds g k c a
-  pub follow-rounds : FollowRounds g k c a
-  pub any-order : AnyOrder g k c a
+  pub level-rounds : LevelRounds g k c (a .rounds) (a .nonterminals)
+  pub follow-rounds : FollowRounds g k c (a .nonterminals) (a .followRounds) (a .follows)
+  pub any-order : AnyOrder g k c (a .nonterminals) (a .follows)
   pub members : (w : ℕ) → g .t + 5 < ones w → Members g k w a
 
 -- Where room is enough the grammar is analysed.
@@ -132,9 +136,10 @@ OnlyEleven = (g : Grammar) (k c : ℕ) → Accepted g → 1 ≤ k → 1 ≤ c �
 abbrev pub Between : ℕ → ℕ → ℕ → Type 0
 Between least most x = (least ≤ x) × (x ≤ most)
 
--- The table is read as this grammar.
-abbrev pub Reads : List ℕ → Grammar → Type 0
-Reads table g = (next : ℕ) × (readTable table ≡ read g next)
+-- The table is the writing of this grammar, which keeps the limits of a table.
+pub record IsTableOf (g : Grammar) (table : List ℕ) : Type 0 where
+  pub written : table ≡ writeTable g
+  pub limits : Limits g
 
 abbrev pub AllProductive : Grammar → Type 0
 AllProductive g = (A : ℕ) → A < g .n → Productive g (nonterminal A ∷ [])
@@ -142,28 +147,29 @@ AllProductive g = (A : ℕ) → A < g .n → Productive g (nonterminal A ∷ [])
 abbrev pub EnoughWords : Grammar → ℕ → ℕ → ℕ → Type 0
 EnoughWords g c result scratch = (resultNeeds c g ≤ result) × (scratchNeeds c g ≤ scratch)
 
--- What is answered, and exactly when. Refusals 3 to 7 are the reader's, in reading order.
+-- What is answered, and exactly when. Refusals 3 to 7 say of the table's bytes why they are no such writing.
 pub data Verdict (k c : ℕ) (table : List ℕ) (result scratch : ℕ) : Answer Analysis → Type 0 where
   bad-k : ¬ Between 1 10 k → Verdict k c table result scratch (refused 1)
   bad-room : Between 1 10 k → ¬ Between 1 1024 c → Verdict k c table result scratch (refused 2)
-  bad-table : {r : ℕ} → Between 1 10 k → Between 1 1024 c → readTable table ≡ unread r → Between 3 7 r → Verdict k c table result scratch (refused r)
-  unproductive : {g : Grammar} → Between 1 10 k → Between 1 1024 c → Reads table g → ¬ AllProductive g → Verdict k c table result scratch (refused 8)
+  bad-table : {r : ℕ} → Between 1 10 k → Between 1 1024 c → TableRefused table r → Verdict k c table result scratch (refused r)
+  unproductive : {g : Grammar} → Between 1 10 k → Between 1 1024 c → IsTableOf g table → ¬ AllProductive g → Verdict k c table result scratch (refused 8)
   left-recursive :
-      {g : Grammar} → Between 1 10 k → Between 1 1024 c → Reads table g → AllProductive g → LeftRecursive g
+      {g : Grammar} → Between 1 10 k → Between 1 1024 c → IsTableOf g table → AllProductive g → LeftRecursive g
       → Verdict k c table result scratch (refused 9)
   few-words :
-      {g : Grammar} → Between 1 10 k → Between 1 1024 c → Reads table g → Accepted g → ¬ EnoughWords g c result scratch
+      {g : Grammar} → Between 1 10 k → Between 1 1024 c → IsTableOf g table → Accepted g → ¬ EnoughWords g c result scratch
       → Verdict k c table result scratch (refused 10)
   no-room :
-      {g : Grammar} → Between 1 10 k → Between 1 1024 c → Reads table g → Accepted g → EnoughWords g c result scratch → SomePasses g k c
+      {g : Grammar} → Between 1 10 k → Between 1 1024 c → IsTableOf g table → Accepted g → EnoughWords g c result scratch → SomePasses g k c
       → Verdict k c table result scratch (refused 11)
   analysed :
       {g : Grammar} {a : Analysis}
-      → Between 1 10 k → Between 1 1024 c → Reads table g → Accepted g → EnoughWords g c result scratch → EnoughRoom g k c → Analysed g k c a
+      → Between 1 10 k → Between 1 1024 c → IsTableOf g table → Accepted g → EnoughWords g c result scratch → EnoughRoom g k c → Analysed g k c a
       → Verdict k c table result scratch (got a)
 
+-- Every number of a table is a byte, as every element of a lent `&[u8]` is.
 abbrev pub AnswersAll : Type 0
-AnswersAll = (k c : ℕ) (table : List ℕ) (result scratch : ℕ) → Verdict k c table result scratch (analyse k c table result scratch)
+AnswersAll = (k c : ℕ) (table : List ℕ) (result scratch : ℕ) → Bytes table → Verdict k c table result scratch (analyse k c table result scratch)
 
 -- No two of the cases hold of one input: what satisfies the verdict is what is answered.
 abbrev pub OneAnswer : Type 0

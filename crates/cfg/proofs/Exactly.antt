@@ -164,6 +164,13 @@ wanted vs v rest kind h e =
 
 -- each row by its number
 module _ {b : List ℕ} where
+  pub refusal-rows : {r : ℕ} → TableRefused b r → (3 ≤ r) × (r ≤ 7)
+  refusal-rows (ends-early o) = (omega arith, omega arith)
+  refusal-rows (wrong-number o) = (omega arith, omega arith)
+  refusal-rows (wrong-count o) = (omega arith, omega arith)
+  refusal-rows (out-of-range o) = (omega arith, omega arith)
+  refusal-rows (left-over o) = (omega arith, omega arith)
+
   is-three : TableRefused b 3 → NextNumber Unfinished b
   is-three (ends-early o) = o
 
@@ -213,7 +220,7 @@ module _ (b : List ℕ) where
       let short : length (writeNumbers (tableNumbers (o .g))) ≢ length b = omega (arith, length-drop (length (writeNumbers (tableNumbers (o .g)))) b, ap length behind) in
       sym (run-table b) ∙ rw (e, ne-eqb (length (writeNumbers (tableNumbers (o .g)))) (length b) short)
 
-  refused-by : (r : ℕ) → TableRefused b r → readTable b ≡ refused r
+  pub refused-by : (r : ℕ) → TableRefused b r → readTable b ≡ refused r
   refused-by r (ends-early o) = stopped 3 (o .vs) (o .kind) (o .wants) (o .c) (o .bytes) (λ x e. inl (number-three b x .1 (rw e (o .next))))
   refused-by r (wrong-number o) = stopped 4 (o .vs) (o .kind) (o .wants) (o .c) (o .bytes) (λ x e. inl (number-four b x .1 (rw e (o .next))))
   refused-by r (wrong-count o) = outside-refused 5 o

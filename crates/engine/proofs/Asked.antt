@@ -1,28 +1,28 @@
 -- After a call that was not refused, asking for a set gives the words of that set. Assumes nothing.
 use Prim.Native.Nat.{ℕ, zero, suc, _+_, _*_, _≤_, _<_}
 use native.Mathlib.Omega.{arith}
-use mathlib.Core.Path.{_≡_, refl, sym, ap, _∙_}
+use mathlib.Core.Path.{_≡_, refl, sym, ap, _∙_, subst}
 use mathlib.Core.Bool.{Bool, true, false, cond}
 use mathlib.Core.List.{List, [], _∷_, _++_}
 use borrow.Author.Tests.{le-leb, lt-ltb}
 use lib.Dec.{eqb}
 use lib.ListN.{length, drop, length-append}
 use lib.Seq.{getD-append-add}
-use Rattle.cfg.specs.Grammar.{Grammar}
+use Rattle.cfg.specs.Grammar.{Grammar, Accepted}
 use Rattle.cfg.proofs.Sizes.{accepted-sizes}
-use Rattle.cfg.proofs.Meaning.{accepted}
+use Rattle.cfg.proofs.Meaning.{TableRead, accepted}
 use Rattle.k_tuples.specs.States.{State, setOf, Each, each-none, each-more}
 use Rattle.k_tuples.specs.Work.{got}
 use Rattle.k_tuples.specs.Held.{setWords}
-use Rattle.k_tuples.specs.Blocks.{store}
-use Rattle.k_tuples.proofs.Blocks.{length-store, block-store}
+use Rattle.k_tuples.specs.Blocks.{store, Kept, AllKept}
+use Rattle.k_tuples.proofs.Blocks.{kept-at, length-store, block-store}
 use Rattle.analysis.specs.Analysis.{Analysis, analyse}
 use Rattle.analysis.specs.Promises.{Analysed}
 use Rattle.analysis.proofs.Kept.{answers-right}
 use Rattle.analysis.proofs.Counts.{occurrences-count}
 use Rattle.engine.specs.Ask.{kindStart, kindCount, inLimits, resultSize, thereIs, setPart}
 use Rattle.engine.specs.Call.{setsOf, resultNeeded, resultAfter, ofKind}
-use Rattle.engine.proofs.Got.{analyse-got}
+use Rattle.engine.proofs.Got.{Got, analyse-got}
 use Rattle.engine.proofs.Sets.{sets-kept}
 use Rattle.engine.proofs.Asking.{place-inside}
 
@@ -107,36 +107,55 @@ module _ (a : Analysis) (s : Counted a) where
       by false false false true h = at (2 * a .n + a .p + number) (a .n + (a .p + (a .n + number))) (omega arith) ∙ in-positions number
       by false false false false h = absurd (omega arith)
 
--- asking for set `number` of a kind gives its words
-pub asked : (k c : ℕ) (table result scratch : List ℕ) (a : Analysis) → analyse k c table (length result) (length scratch) ≡ got a
-    → (kind number : ℕ) → number < length (ofKind kind a)
-    → setPart kind number (a .n) (a .p) (a .q) c (resultAfter c (resultNeeded c table) result (got a)) ≡ setWords (2 * c + 1) (a .width) (setOf (ofKind kind a) number)
-unfolding setPart resultAfter thereIs inLimits resultSize
-asked k c table result scratch a e kind number h =
-    let got = analyse-got k c table (length result) (length scratch) a e in
-    let g = got .g in
-    let (ok, read) = accepted table g (got .next) (got .reads) in
-    let sizes = accepted-sizes table g (got .next) (got .reads) in
-    let is = answers-right g k c ok (got .k>0) (got .c>0) a (got .works) in
-    let s = counted g k c a is in
-    let kept = sets-kept g k c ok (read .terminals) (got .k>0) (got .k<11) (got .c>0) a (got .works) in
-    let rest = drop (resultNeeded c table) result in
-    let below : number < kindCount kind (a .n) (a .p) (a .q) = rw (kind-length a s kind) at h in
-    let place = place-inside kind number (a .n) (a .p) (a .q) below in
-    let n : a .n ≡ g .n = is .sizes .n in
-    let p = is .sizes .p in
-    let q = is .sizes .q ∙ occurrences-count (g .productions) in
-    let long = length-store k (a .width) (2 * c + 1) rest (setsOf a) kept in
-    let whole : (2 * a .n + a .p + a .q) * (2 * c + 1) ≤ length (store (2 * c + 1) (a .width) (setsOf a) rest) = rw (long, sets-count a s) (omega arith) in
-    rw (
-      le-leb 1 (a .n) (omega (arith, sizes .some)),
-      le-leb (a .n) 128 (omega (arith, sizes .nonterminals)),
-      le-leb (a .p) 512 (omega (arith, sizes .productions)),
-      le-leb (a .q) 4096 (omega (arith, sizes .positions)),
-      le-leb 1 c (got .c>0),
-      le-leb c 1024 (got .c<1025),
-      lt-ltb number (kindCount kind (a .n) (a .p) (a .q)) below,
-      le-leb ((2 * a .n + a .p + a .q) * (2 * c + 1)) (length (store (2 * c + 1) (a .width) (setsOf a) rest)) whole,
-    )
-    (block-store k (a .width) (2 * c + 1) rest (setsOf a) (kindStart kind (a .n) (a .p) + number) kept (omega (arith, sets-count a s))
-    ∙ ap (setWords (2 * c + 1) (a .width)) (kind-place a s kind number below))
+-- an analysis that was got
+module _ (k c : ℕ) (table result scratch : List ℕ) (a : Analysis) (e : analyse k c table (length result) (length scratch) ≡ got a) where
+  known : Got k c table (length result) (length scratch) a
+  known = analyse-got k c table (length result) (length scratch) a e
+
+  ok : Accepted (known .g) × TableRead (known .g)
+  ok = accepted table (known .g) (known .next) (known .reads)
+
+  is : Analysed (known .g) k c a
+  is = answers-right (known .g) k c (ok .0) (known .k>0) (known .c>0) a (known .works)
+
+  many : Counted a
+  many = counted (known .g) k c a is
+
+  kept : AllKept k (a .width) (2 * c + 1) (setsOf a)
+  kept = sets-kept (known .g) k c (ok .0) (ok .1 .terminals) (known .k>0) (known .k<11) (known .c>0) a (known .works)
+
+  module _ (kind number : ℕ) (h : number < length (ofKind kind a)) where
+    below : number < kindCount kind (a .n) (a .p) (a .q)
+    below = rw (kind-length a many kind) at h
+
+    inside : kindStart kind (a .n) (a .p) + number < length (setsOf a)
+    inside = omega (arith, sets-count a many, place-inside kind number (a .n) (a .p) (a .q) below)
+
+    -- set `number` of a kind can be kept in its words
+    pub asked-kept : Kept k (a .width) (2 * c + 1) (setOf (ofKind kind a) number)
+    asked-kept =
+        subst (Kept k (a .width) (2 * c + 1)) (kind-place a many kind number below) (kept-at (setsOf a) (kindStart kind (a .n) (a .p) + number) kept inside)
+
+    -- asking for it gives its words
+    pub asked : setPart kind number (a .n) (a .p) (a .q) c (resultAfter c (resultNeeded c table) result (got a)) ≡ setWords (2 * c + 1) (a .width) (setOf (ofKind kind a) number)
+    unfolding setPart resultAfter thereIs inLimits resultSize
+    asked =
+        let sizes = accepted-sizes table (known .g) (known .next) (known .reads) in
+        let rest = drop (resultNeeded c table) result in
+        let n : a .n ≡ known .g .n = is .sizes .n in
+        let p = is .sizes .p in
+        let q = is .sizes .q ∙ occurrences-count (known .g .productions) in
+        let long = length-store k (a .width) (2 * c + 1) rest (setsOf a) kept in
+        let whole : (2 * a .n + a .p + a .q) * (2 * c + 1) ≤ length (store (2 * c + 1) (a .width) (setsOf a) rest) = rw (long, sets-count a many) (omega arith) in
+        rw (
+          le-leb 1 (a .n) (omega (arith, sizes .some)),
+          le-leb (a .n) 128 (omega (arith, sizes .nonterminals)),
+          le-leb (a .p) 512 (omega (arith, sizes .productions)),
+          le-leb (a .q) 4096 (omega (arith, sizes .positions)),
+          le-leb 1 c (known .c>0),
+          le-leb c 1024 (known .c<1025),
+          lt-ltb number (kindCount kind (a .n) (a .p) (a .q)) below,
+          le-leb ((2 * a .n + a .p + a .q) * (2 * c + 1)) (length (store (2 * c + 1) (a .width) (setsOf a) rest)) whole,
+        )
+        (block-store k (a .width) (2 * c + 1) rest (setsOf a) (kindStart kind (a .n) (a .p) + number) kept inside
+        ∙ ap (setWords (2 * c + 1) (a .width)) (kind-place a many kind number below))

@@ -2,6 +2,7 @@
 ghost use mathlib.Core.Path.{_≡_};
 ghost use Prim.Native.Nat.{_+_, _*_, _≤_, _<_};
 ghost use lib.ListN.{length};
+ghost use Rattle.cfg.specs.Write.{Bytes};
 ghost use Rattle.k_tuples.specs.Work.{refused as refusedBy};
 ghost use Rattle.analysis.specs.Analysis.{resultNeeds};
 ghost use Rattle.engine.specs.Call.{answerOf, wiped, Promised};
@@ -285,7 +286,8 @@ pub fn lookahead_sets(
     result: &mut [u64],
     scratch: &mut [u64],
 ) -> Lookahead
-    ensures { λ r. ⌜ Promised k c (now (table .entry)) (now (result .entry)) (now (scratch .entry)) r (now (result .exit)) (now (scratch .exit)) ⌝ }
+    ensures promised { λ r. ⌜ Promised k c (now (table .entry)) (now (result .entry)) (now (scratch .entry)) r (now (result .exit)) (now (scratch .exit)) ⌝ }
+    ensures bytes { λ _. ⌜ Bytes (now (table .entry)) ⌝ }
 {
     if k < 1 {
         return refused(1);
