@@ -2,7 +2,7 @@
 # Builds the static library, compiles smoke.c against it for x86-64 and runs it, under the toolchain's emulator on another processor.
 #
 #   bindings/c/check.sh            every function of the header, by smoke.c
-#   bindings/c/check.sh FOLDER     also the listing through the archive, by listing.c: each NAME.in of the folder against its NAME.out
+#   bindings/c/check.sh FOLDER..   also the listing through the archive, by listing.c: each NAME.in of the folders against its NAME.out
 set -euo pipefail
 cd "$(dirname "$0")/../.."
 home=$(cd "$(dirname "$(rt doc)")/.." && pwd -P)
@@ -12,8 +12,8 @@ emulator=$tools/bin/qemu-x86_64
 room=$(mktemp -d)
 trap 'rm -rf "$room"' EXIT
 rt staticlib exports >"$room/say" 2>&1 || { cat "$room/say" >&2; exit 1; }
-# the toolchain's compiler comes without headers: these two say what the header uses of them
-echo 'typedef __SIZE_TYPE__ size_t;' >"$room/stddef.h"
+# the toolchain's compiler comes without headers: these two say what is used of them
+printf '%s\n' 'typedef __SIZE_TYPE__ size_t;' '#define NULL ((void *)0)' >"$room/stddef.h"
 echo 'typedef __UINT8_TYPE__ uint8_t; typedef __UINT16_TYPE__ uint16_t; typedef __UINT64_TYPE__ uint64_t;' >"$room/stdint.h"
 program() { # NAME
     "$tools/bin/clang" --target=x86_64-unknown-linux-gnu -std=c11 -ffreestanding -O2 -fPIE -Wall -Wextra -Werror -I "$room" -c "bindings/c/$1.c" -o "$room/$1.o"
@@ -31,8 +31,10 @@ echo 'bindings/c: all checks are right'
 [ $# -gt 0 ] || exit 0
 program listing
 same=0 different=0
-for input in "$1"/*.in; do
-    if run listing <"$input" | cmp -s - "${input%.in}.out"; then same=$((same + 1)); else different=$((different + 1)); echo "$input differs"; fi
+for folder; do
+    for input in "$folder"/*.in; do
+        if run listing <"$input" | cmp -s - "${input%.in}.out"; then same=$((same + 1)); else different=$((different + 1)); echo "$input differs"; fi
+    done
 done
 echo "$same the same, $different different"
 [ "$different" = 0 ]

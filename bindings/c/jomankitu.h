@@ -1,8 +1,9 @@
 /* The library for C: target/staticlib/libexports.a (rt staticlib exports), for x86-64 Linux.
 
-   A list is passed as a pointer and the number of its elements. No two lists of one call may overlap where one of them is written.
-   Each function returns the number of a refusal, 0 where there is none (docs: the table of refusals). Its other numbers go to the
-   words that are lent last, each of them 0 on a refusal. If those words are too few, it returns 10 and writes nothing at all.
+   A list is passed as a pointer and the number of its elements; one without elements may be NULL and 0. No two lists of one call may overlap
+   where one of them is written. Each function returns the number of a refusal, 0 where there is none (docs: the table of refusals). Its other
+   numbers go to the words that are lent last, each of them 0 on a refusal. If those words are too few, it writes nothing at all and returns 10,
+   in the table's order: where one of 1 to 9 would be refused with words enough, it returns that, and 10 comes before any later number.
    A string is two words, the low one first. A set is a count, then its members in order, two words each, then zeros. */
 #ifndef JOMANKITU_H
 #define JOMANKITU_H

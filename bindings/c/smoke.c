@@ -28,6 +28,12 @@ static int is_set(size_t kind, size_t number, const uint64_t *set) {
 static int listing(void) {
     static const size_t counts[4] = {2, 3, 2, 1};
     if (jomankitu_lookahead_sets(K, C, table, sizeof table, result, WORDS, scratch, WORDS, answer, 15) != 10) return 1;
+    if (jomankitu_lookahead_sets(11, C, table, sizeof table, result, WORDS, scratch, WORDS, answer, 15) != 1) return 10;
+    if (jomankitu_lookahead_sets(K, 0, table, sizeof table, result, WORDS, scratch, WORDS, NULL, 0) != 2) return 11;
+    if (jomankitu_lookahead_sets(K, C, NULL, 0, result, WORDS, scratch, WORDS, answer, 15) != 3) return 12;
+    if (jomankitu_lookahead_sets(K, 1, table, sizeof table, result, WORDS, scratch, WORDS, answer, 15) != 10) return 13;
+    if (jomankitu_lookahead_sets(K, C, table, sizeof table, NULL, 0, NULL, 0, answer, 16) != 10 || answer[0] != 10) return 14;
+    for (size_t i = 0; i < WORDS; i++) if (result[i] || scratch[i]) return 15;
     if (jomankitu_lookahead_sets(11, C, table, sizeof table, result, WORDS, scratch, WORDS, answer, 16) != 1 || answer[0] != 1) return 2;
     if (jomankitu_lookahead_sets(K, C, table, sizeof table - 1, result, WORDS, scratch, WORDS, answer, 16) != 3) return 3;
     if (jomankitu_lookahead_sets(K, C, table, sizeof table, result, WORDS, scratch, WORDS, answer, 16)) return 4;
@@ -45,7 +51,9 @@ static int strings(void) {
     if (jomankitu_width(7, out, 1) || out[0] != 4 || jomankitu_width(4095, out, 1) != 14 || out[0]) return 20;
     if (jomankitu_eps(7, out, 2) || out[0] != 15 || out[1] != ONE || jomankitu_eps(7, out, 1) != 10) return 21;
     if (jomankitu_end(7, out, 2) || out[0] || out[1] != ONE) return 22;
-    if (jomankitu_make(list, LENGTH(list), 3, 8, y, 2) || jomankitu_make(list, 0, 3, 8, x, 2) || jomankitu_push(x[0], x[1], 5, x, 2)) return 23;
+    if (jomankitu_make(list, LENGTH(list), 11, 8, NULL, 0) != 1 || jomankitu_make(list, LENGTH(list), 3, 7, out, 1) != 10) return 31;
+    if (jomankitu_cut(1, 0, 11, out, 1) != 1 || jomankitu_cut(1, 0, 2, out, 1) != 10 || jomankitu_unpack(1, 0, out, 10) != 10) return 32;
+    if (jomankitu_make(list, LENGTH(list), 3, 8, y, 2) || jomankitu_make(NULL, 0, 3, 8, x, 2) || jomankitu_push(x[0], x[1], 5, x, 2)) return 23;
     if (x[0] != 5 || x[1] != ONE) return 24;
     if (jomankitu_join(x[0], x[1], y[0], y[1], 3, out, 2)) return 25;
     x[0] = out[0];
@@ -62,6 +70,9 @@ static int of_sets(void) {
     if (jomankitu_union(2, a, LENGTH(a), b, LENGTH(b), out, 7, told, 1) || told[0] != 1 || !same(out, b, 5) || out[5]) return 40;
     if (jomankitu_union(2, b, LENGTH(b), a, LENGTH(a), out, 7, told, 1) || told[0]) return 41;
     if (jomankitu_union(2, a, LENGTH(a), b, LENGTH(b), out, 4, told, 1) != 11 || out[0] || jomankitu_union(2, a, 3, b, 5, out, 7, told, 0) != 10) return 42;
+    if (jomankitu_union(11, a, 3, b, 5, out, 7, NULL, 0) != 1 || jomankitu_union(2, NULL, 0, b, 5, out, 7, told, 1) != 10) return 47;
+    if (jomankitu_union(2, a, 2, b, 5, out, 7, NULL, 0) != 10 || jomankitu_union(2, a, 2, b, 5, out, 7, told, 1) != 13) return 48;
+    if (jomankitu_disjoint(0, a, 3, b, 5, NULL, 0) != 1 || jomankitu_disjoint(2, a, 2, b, 5, NULL, 0) != 10) return 49;
     if (jomankitu_intersection(2, a, LENGTH(a), b, LENGTH(b), out, 7) || !same(out, a, 3) || out[3]) return 43;
     if (jomankitu_disjoint(2, a, LENGTH(a), b, LENGTH(b), told, 1) || told[0]) return 44;
     if (jomankitu_all_complete(1, b, LENGTH(b), told, 1) || told[0] != 1 || jomankitu_all_complete(2, b, LENGTH(b), told, 1) || told[0]) return 45;

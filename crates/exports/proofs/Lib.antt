@@ -1,1 +1,4 @@
 pub mod Telling
+pub mod Making
+pub mod Calling
+pub mod One

@@ -1,19 +1,19 @@
 // The surface for C, and for any language that calls C: a static library. A slice is passed as a pointer and a length. A function answers by the
 // number of a refusal, 0 where there is none, and leaves its other numbers in lent words.
 ghost use mathlib.Core.Path.{_≡_};
-ghost use Prim.Native.Nat.{_≤_};
 ghost use lib.ListN.{length};
 ghost use mathlib.Core.List.{[], _∷_};
 ghost use Rattle.k_tuple.specs.Paper.{gives};
-ghost use Rattle.exports.specs.Told.{fronted, Wrote, Told, partOf};
+ghost use Rattle.exports.specs.Told.{tooFew, Wrote, Told, partOf};
 ghost use Rattle.exports.specs.Call.{recordWords, Called};
 use engine::ask::kind_start;
 use engine::ask::there_is;
+use k_tuples::set::copy_front;
 use lookahead::Lookahead;
 use lookahead::lookahead_sets;
 
-mod sets;
-mod strings;
+pub mod sets;
+pub mod strings;
 
 // A refusal and one number.
 pub struct Said {
@@ -21,33 +21,34 @@ pub struct Said {
     pub value: u64,
 }
 
-// Copies words to the front of others.
-fn copy(dst: &mut [u64], src: &[u64])
-    requires { ⌜ length (now src) ≤ length (now dst) ⌝ }
-    ensures { λ _. ⌜ now (dst .exit) ≡ fronted (now (src .entry)) (now (dst .entry)) ⌝ }
+// The refusal where the words for an answer are too few: 10, but first what comes before it in the table.
+fn too_few(refusal: u64) -> u64
+    ensures { λ r. ⌜ r ≡ tooFew refusal ⌝ }
 {
-    let n = src.len();
-    let mut i = 0;
-    while i < n {
-        dst[i] = src[i];
-        i += 1;
-    }
-}
-
-// Tells a refusal, and numbers in lent words.
-fn tell(out: &mut [u64], refusal: u64, values: &[u64]) -> u64
-    ensures { λ r. ⌜ Wrote refusal (now (values .entry)) (now (out .entry)) r (now (out .exit)) ⌝ }
-{
-    if out.len() < values.len() {
+    if refusal < 1 {
         return 10;
     }
-    copy(out, values);
+    if 9 < refusal {
+        return 10;
+    }
+    refusal
+}
+
+// Tells a refusal, and numbers in lent words: a call that has numbers to tell tells them by this function.
+fn tell(out: &mut [u64], refusal: u64, values: &[u64]) -> u64
+    ensures { λ r. ⌜ Wrote (length (now (values .entry))) refusal (now (values .entry)) (now (out .entry)) r (now (out .exit)) ⌝ }
+{
+    let n = values.len();
+    if out.len() < n {
+        return too_few(refusal);
+    }
+    copy_front(out, values, n);
     refusal
 }
 
 // Tells a refusal, and one number in a lent word.
 fn tell_one(out: &mut [u64], s: Said) -> u64
-    ensures { λ r. ⌜ Wrote (s .number) (s .value ∷ []) (now (out .entry)) r (now (out .exit)) ⌝ }
+    ensures { λ r. ⌜ Wrote 1 (s .number) (s .value ∷ []) (now (out .entry)) r (now (out .exit)) ⌝ }
 {
     let words = [s.value];
     tell(out, s.number, &words)
@@ -78,7 +79,8 @@ fn record_words(a: Lookahead) -> [u64; 16]
     ]
 }
 
-// FIRST and FOLLOW of a table at k, with room for c members in each set. The answer takes sixteen words.
+// FIRST and FOLLOW of a table at k, with room for c members in each set. The answer takes sixteen words; where they are too few the engine is asked
+// with no words at all, which it refuses by 10 or what comes before it, and touches nothing.
 #[no_mangle]
 pub extern "C" fn jomankitu_lookahead_sets(
     k: u64,
@@ -91,12 +93,12 @@ pub extern "C" fn jomankitu_lookahead_sets(
     ensures { λ r. ⌜ Called k c (now (table .entry)) (now (result .entry)) (now (scratch .entry)) (now (answer .entry)) r (now (result .exit)) (now (scratch .exit)) (now (answer .exit)) ⌝ }
 {
     if answer.len() < 16 {
-        return 10;
+        let few = lookahead_sets(k, c, table, &mut result[..0], &mut scratch[..0]);
+        return few.refusal;
     }
     let a = lookahead_sets(k, c, table, result, scratch);
     let words = record_words(a);
-    copy(answer, &words);
-    a.refusal
+    tell(answer, a.refusal, &words)
 }
 
 // Where the part of a set begins, and its length.

@@ -4,7 +4,7 @@ ghost use mathlib.Core.List.{[], _∷_};
 ghost use lib.ListN.{length};
 ghost use Rattle.k_tuple.specs.Paper.{numberOf, valuesOf};
 ghost use Rattle.k_tuples.specs.Answers.{unionOnPaper, setOnPaper, testOnPaper, unionAnswer, unionWords, intersectAnswer, intersectWords, disjointAnswer, completeAnswer, joinAnswer, joinWords};
-ghost use Rattle.exports.specs.Told.{Told, Made};
+ghost use Rattle.exports.specs.Told.{Told, Left, Made};
 use crate::Said;
 use crate::tell_one;
 use lookahead::SetAnswer;
@@ -69,10 +69,12 @@ pub extern "C" fn jomankitu_union(
     out: &mut [u64],
     told: &mut [u64],
 ) -> u64
-    ensures { λ r. ⌜ Made (unionAnswer k (length (now (out .entry))) (now (a .entry)) (now (b .entry))) (unionWords k (now (a .entry)) (now (b .entry)) (now (out .entry))) (now (out .entry)) (now (told .entry)) r (now (out .exit)) (now (told .exit)) ⌝ }
+    ensures { λ r. ⌜ Made 1 (unionAnswer k (length (now (out .entry))) (now (a .entry)) (now (b .entry))) (unionWords k (now (a .entry)) (now (b .entry)) (now (out .entry))) (now (out .entry)) (now (told .entry)) r (now (out .exit)) (now (told .exit)) ⌝ }
 {
     if told.len() < 1 {
-        return 10;
+        let few = lookahead::union(k, a, b, &mut out[..0]);
+        let s = said_union(few);
+        return s.number;
     }
     let u = lookahead::union(k, a, b, out);
     tell_one(told, said_union(u))
@@ -81,8 +83,7 @@ pub extern "C" fn jomankitu_union(
 // Makes out the intersection of two sets.
 #[no_mangle]
 pub extern "C" fn jomankitu_intersection(k: u64, a: &[u64], b: &[u64], out: &mut [u64]) -> u64
-    ensures answer { λ r. ⌜ r ≡ numberOf (intersectAnswer k (length (now (out .entry))) (now (a .entry)) (now (b .entry))) ⌝ }
-    ensures words { λ _. ⌜ now (out .exit) ≡ intersectWords k (now (a .entry)) (now (b .entry)) (now (out .entry)) ⌝ }
+    ensures { λ r. ⌜ Left (intersectAnswer k (length (now (out .entry))) (now (a .entry)) (now (b .entry))) (intersectWords k (now (a .entry)) (now (b .entry)) (now (out .entry))) r (now (out .exit)) ⌝ }
 {
     let s = lookahead::intersection(k, a, b, out);
     set_number(s)
@@ -109,8 +110,7 @@ pub extern "C" fn jomankitu_all_complete(k: u64, a: &[u64], out: &mut [u64]) -> 
 // Makes out the join of two sets at k.
 #[no_mangle]
 pub extern "C" fn jomankitu_join_sets(k: u64, a: &[u64], b: &[u64], out: &mut [u64]) -> u64
-    ensures answer { λ r. ⌜ r ≡ numberOf (joinAnswer k (length (now (out .entry))) (now (a .entry)) (now (b .entry))) ⌝ }
-    ensures words { λ _. ⌜ now (out .exit) ≡ joinWords k (now (a .entry)) (now (b .entry)) (now (out .entry)) ⌝ }
+    ensures { λ r. ⌜ Left (joinAnswer k (length (now (out .entry))) (now (a .entry)) (now (b .entry))) (joinWords k (now (a .entry)) (now (b .entry)) (now (out .entry))) r (now (out .exit)) ⌝ }
 {
     let s = lookahead::k_concat(k, a, b, out);
     set_number(s)

@@ -1,6 +1,6 @@
 -- `exports::sets::jomankitu_intersection` meets its contract. Assumes nothing.
 use borrow.Author.Needs.{needs}
-use Rattle.exports.proofs.Telling.{number-told}
+use Rattle.exports.proofs.Telling.{set-left}
 use Rattle.exports.proofs.sets.jomankitu_intersection.Statement.{statement}
 use Rattle.exports.proofs.sets.jomankitu_intersection.Tie as tie
 
@@ -14,7 +14,7 @@ same-length : tie.Need-same-length
 same-length c = search needs
 
 returns : tie.Need-returns
-returns c = let e = c .before .before .before .intersection .ensures in (number-told (c .set-number .ensures) (e .0), e .1)
+returns c = let e = c .before .before .before .intersection .ensures in set-left (c .set-number .ensures) (e .0) (e .1)
 
 pub jomankitu-intersection-spec : {M : Type 1} → statement M
 jomankitu-intersection-spec =

@@ -1,6 +1,6 @@
 -- `exports::sets::jomankitu_join_sets` meets its contract. Assumes nothing.
 use borrow.Author.Needs.{needs}
-use Rattle.exports.proofs.Telling.{number-told}
+use Rattle.exports.proofs.Telling.{set-left}
 use Rattle.exports.proofs.sets.jomankitu_join_sets.Statement.{statement}
 use Rattle.exports.proofs.sets.jomankitu_join_sets.Tie as tie
 
@@ -14,7 +14,7 @@ same-length : tie.Need-same-length
 same-length c = search needs
 
 returns : tie.Need-returns
-returns c = let e = c .before .before .before .k-concat .ensures in (number-told (c .set-number .ensures) (e .0), e .1)
+returns c = let e = c .before .before .before .k-concat .ensures in set-left (c .set-number .ensures) (e .0) (e .1)
 
 pub jomankitu-join-sets-spec : {M : Type 1} → statement M
 jomankitu-join-sets-spec =
