@@ -3,6 +3,8 @@
 #
 #   bindings/c/check.sh            every function of the header, by smoke.c
 #   bindings/c/check.sh FOLDER..   also the listing through the archive, by listing.c: each NAME.in of the folders against its NAME.out
+#
+# JOMANKITU_LIB names the folder of an archive that was built before.
 set -euo pipefail
 cd "$(dirname "$0")/../.."
 home=$(cd "$(dirname "$(rt doc)")/.." && pwd -P)
@@ -11,13 +13,14 @@ tools=$own/toolchain
 emulator=$tools/bin/qemu-x86_64
 room=$(mktemp -d)
 trap 'rm -rf "$room"' EXIT
-rt staticlib exports >"$room/say" 2>&1 || { cat "$room/say" >&2; exit 1; }
+library=${JOMANKITU_LIB:-target/staticlib}
+[ -n "${JOMANKITU_LIB:-}" ] || rt staticlib exports >"$room/say" 2>&1 || { cat "$room/say" >&2; exit 1; }
 # the toolchain's compiler comes without headers: these two say what is used of them
 printf '%s\n' 'typedef __SIZE_TYPE__ size_t;' '#define NULL ((void *)0)' >"$room/stddef.h"
 echo 'typedef __UINT8_TYPE__ uint8_t; typedef __UINT16_TYPE__ uint16_t; typedef __UINT64_TYPE__ uint64_t;' >"$room/stdint.h"
 program() { # NAME
     "$tools/bin/clang" --target=x86_64-unknown-linux-gnu -std=c11 -ffreestanding -O2 -fPIE -Wall -Wextra -Werror -I "$room" -c "bindings/c/$1.c" -o "$room/$1.o"
-    "$own/bin/rattle-link" --target x86_64-unknown-linux-gnu --toolchain "$tools" -o "$room/$1" "$room/$1.o" target/staticlib/libexports.a >"$room/say" 2>&1
+    "$own/bin/rattle-link" --target x86_64-unknown-linux-gnu --toolchain "$tools" -o "$room/$1" "$room/$1.o" "$library/libexports.a" >"$room/say" 2>&1
 }
 run() { # NAME
     if [ -x "$emulator" ]; then "$emulator" "${loader[@]}" "$room/$1"; else "${loader[@]}" "$room/$1"; fi

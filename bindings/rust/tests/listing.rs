@@ -25,7 +25,9 @@ fn refusals_leave_the_words() {
     let (mut result, mut scratch) = (vec![7u64; 4096], vec![7u64; 4096]);
     assert_eq!(lookahead_sets(0, 8, &TABLE, &mut result, &mut scratch), Err(1));
     assert_eq!(lookahead_sets(2, 8, &TABLE[..12], &mut result, &mut scratch), Err(3));
+    assert_eq!(lookahead_sets(2, 8, &[], &mut result, &mut scratch), Err(3));
     assert_eq!(lookahead_sets(2, 8, &TABLE, &mut result[..1], &mut scratch), Err(10));
+    assert_eq!(lookahead_sets(2, 8, &TABLE, &mut [], &mut []), Err(10));
     assert!(result.iter().chain(&scratch).all(|&w| w == 7));
 }
 
@@ -35,7 +37,7 @@ fn strings_and_sets() {
     assert_eq!(width(4095), Err(14));
     assert_eq!(Terminals::make(&[5, 6], 10, 7), Ok(Terminals(101, 0x4200000000000000)));
     let five = Terminals::make(&[5], 10, 7).unwrap();
-    assert_eq!(five.k_concat(Terminals::make(&[6, 7, 8], 10, 7).unwrap(), 3).unwrap().unpack(), Ok(vec![5, 6, 7]));
+    assert_eq!(five.k_concat(Terminals::make(&[6, 7, 8], 10, 8).unwrap(), 3).unwrap().unpack(), Ok(vec![5, 6, 7]));
     assert_eq!(Terminals::eps(7).unwrap().push(5), Err(17));
     assert_eq!(five.order(Terminals::eps(7).unwrap()), Ok(std::cmp::Ordering::Less));
     let (a, b) = ([1, five.0, five.1], [0u64; 3]);
@@ -44,4 +46,6 @@ fn strings_and_sets() {
     assert_eq!(out, a);
     assert_eq!(is_disjoint(1, &a, &a), Ok(false));
     assert_eq!(union(0, &a, &b, &mut out), Err(1));
+    assert_eq!(union(1, &[], &b, &mut out), Err(10));
+    assert_eq!(Terminals::make(&[], 10, 7).unwrap().unpack(), Ok(vec![]));
 }
