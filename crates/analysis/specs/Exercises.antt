@@ -64,7 +64,7 @@ exercises =
     ∷ record { asked = paper (widthAnswer 7); answer = paper (gives (4 ∷ [])) }
     ∷ record { asked = paper (widthAnswer 4094); answer = paper (gives (12 ∷ [])) }
     -- b: 4,095 is refused
-    ∷ record { asked = paper (widthAnswer 4095); answer = paper (no 14) }
+    ∷ record { asked = paper (widthAnswer 4095); answer = paper (no 14 (0 ∷ [])) }
     -- c, d: the words of [5 6] and of ε
     ∷ record { asked = paper (string (four (two 5 6))); answer = paper (gives (101 ∷ 0x4200000000000000 ∷ [])) }
     ∷ record { asked = paper (epsAnswer 7); answer = paper (gives (15 ∷ 0x4100000000000000 ∷ [])) }

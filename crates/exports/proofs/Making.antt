@@ -7,7 +7,7 @@ use borrow.Author.Tests.{lt-ltb, le-ltb}
 use lib.Dec.{ltb, eqb}
 use lib.ListN.{length}
 use Rattle.k_tuple.specs.Strings.{Str}
-use Rattle.k_tuple.specs.Paper.{Paper, gives, _if_else_, flag, numberOf, valuesOf}
+use Rattle.k_tuple.specs.Paper.{Paper, flag, numberOf, valuesOf, Tests, answers, _if_else_, outcome}
 use Rattle.k_tuples.specs.Held.{setIn}
 use Rattle.k_tuples.specs.Words.{roomOf}
 use Rattle.k_tuples.specs.Answers.{isBad, widthIn, membersIn, suits, commonWidth, noWords, outside, twoSets, newSet, written, unionSet, unionAnswer, unionWords}
@@ -21,21 +21,21 @@ or-true true = refl
 or-true false = refl
 
 -- the tests in their order: where a buffer has no words, what is refused is 1, or else 10 whatever comes behind it
-few-first : (out none none′ bad other full : Bool) (p : Paper) (v : List ℕ) → none ≡ true
-    → numberOf (1 if out else 10 if none else p) ≡ tooFew (numberOf (1 if out else 10 if none′ else 13 if bad else 15 if other else 11 if full else gives v))
-few-first true none none′ bad other full p v e = refl
-few-first false none true bad other full p v e = rw e
-few-first false none false true other full p v e = rw e
-few-first false none false false true full p v e = rw e
-few-first false none false false false true p v e = rw e
-few-first false none false false false false p v e = rw e
+few-first : (out none none′ bad other full : Bool) (t : Tests) (v : List ℕ) → none ≡ true
+    → numberOf (outcome (1 if out else 10 if none else t)) ≡ tooFew (numberOf (outcome (1 if out else 10 if none′ else 13 if bad else 15 if other else 11 if full else answers v)))
+few-first true none none′ bad other full t v e = refl
+few-first false none true bad other full t v e = rw e
+few-first false none false true other full t v e = rw e
+few-first false none false false true full t v e = rw e
+few-first false none false false false true t v e = rw e
+few-first false none false false false false t v e = rw e
 
 module _ (k : ℕ) (a b : List ℕ) where
   -- whether a set has no words; and what is tested behind that
   abbrev none : Bool
   none = noWords a || noWords b
 
-  abbrev behind : ℕ → Paper
+  abbrev behind : ℕ → Tests
   behind n =
       13 if isBad (setIn k a) || isBad (setIn k b) else
       15 if not (suits (widthIn (setIn k a)) (widthIn (setIn k b))) else
@@ -52,9 +52,9 @@ module _ (k : ℕ) (a b : List ℕ) where
   unfolding unionWords unionAnswer twoSets
   union-none = by (outside k) (none || true) (behind 0) (commonWidth (setIn k a) (setIn k b)) (unionSet k a b) (or-true none)
     where
-      by : (out empty : Bool) (p : Paper) (w : ℕ) (set : List Str) → empty ≡ true → written (1 if out else 10 if empty else p) w set [] ≡ []
-      by true empty p w set e = refl
-      by false empty p w set e = rw e
+      by : (out empty : Bool) (t : Tests) (w : ℕ) (set : List Str) → empty ≡ true → written (outcome (1 if out else 10 if empty else t)) w set [] ≡ []
+      by true empty t w set e = refl
+      by false empty t w set e = rw e
 
   module _ {out told : List ℕ} where
     pub made-few : {p : Paper} {m : ℕ} {part : List ℕ} → length told < 1 → p ≡ unionAnswer k 0 a b → part ≡ unionWords k a b [] → m ≡ numberOf p
@@ -65,9 +65,9 @@ module _ (k : ℕ) (a b : List ℕ) where
     }
 
     pub made-whole : {p : Paper} {s : Said} {out′ told′ : List ℕ} {r : ℕ} → 1 ≤ length told → p ≡ unionAnswer k (length out) a b → out′ ≡ unionWords k a b out
-        → s .number ≡ numberOf p → (s .value ∷ []) ≡ valuesOf 1 p → Wrote 1 (s .number) (s .value ∷ []) told r told′
+        → s .number ≡ numberOf p → (s .value ∷ []) ≡ valuesOf p → Wrote 1 (s .number) (s .value ∷ []) told r told′
         → Made 1 (unionAnswer k (length out) a b) (unionWords k a b out) out told r out′ told′
     made-whole {p} {s} h e f n v t = record {
-      wrote = told-same refl (n ∙ ap numberOf e) (v ∙ ap (valuesOf 1) e) t;
+      wrote = told-same refl (n ∙ ap numberOf e) (v ∙ ap valuesOf e) t;
       words = f ∙ rw (le-ltb (length told) 1 h);
     }

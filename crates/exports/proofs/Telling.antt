@@ -53,18 +53,18 @@ pub told-same : {n m r₀ r₁ : ℕ} {values values′ out out′ : List ℕ} {
 told-same d e f t = rw d at (rw e at (rw f at t))
 
 -- one number, of a paper by any name
-pub one-told : {p p′ : Paper} {s : Said} {out out′ : List ℕ} {r : ℕ} → p ≡ p′ → s .number ≡ numberOf p → (s .value ∷ []) ≡ valuesOf 1 p → Wrote 1 (s .number) (s .value ∷ []) out r out′ → Told 1 p′ out r out′
-one-told {p} {p′} {s} e n v t = record { wrote = told-same refl (n ∙ ap numberOf e) (v ∙ ap (valuesOf 1) e) t }
+pub one-told : {p p′ : Paper} {s : Said} {out out′ : List ℕ} {r : ℕ} → p ≡ p′ → s .number ≡ numberOf p → (s .value ∷ []) ≡ valuesOf p → Wrote 1 (s .number) (s .value ∷ []) out r out′ → Told 1 p′ out r out′
+one-told {p} {p′} {s} e n v t = record { wrote = told-same refl (n ∙ ap numberOf e) (v ∙ ap valuesOf e) t }
 
 pub named-told : {p p′ : Paper} {n : ℕ} {out out′ : List ℕ} {r : ℕ} → p ≡ p′ → Told n p out r out′ → Told n p′ out r out′
 named-told e t = rw e at t
 
 -- a string has two words, given or refused
-string-length : (a : S.StringAnswer) → length (valuesOf 2 (stringOnPaper a)) ≡ 2
+string-length : (a : S.StringAnswer) → length (valuesOf (stringOnPaper a)) ≡ 2
 string-length (S.the-variants.Is t) = refl
 string-length (S.the-variants.Refused r) = refl
 
-pub string-told : (a : S.StringAnswer) {n : ℕ} {values out out′ : List ℕ} {r : ℕ} → n ≡ numberOf (stringOnPaper a) → values ≡ valuesOf 2 (stringOnPaper a) → Wrote (length values) n values out r out′ → Told 2 (stringOnPaper a) out r out′
+pub string-told : (a : S.StringAnswer) {n : ℕ} {values out out′ : List ℕ} {r : ℕ} → n ≡ numberOf (stringOnPaper a) → values ≡ valuesOf (stringOnPaper a) → Wrote (length values) n values out r out′ → Told 2 (stringOnPaper a) out r out′
 string-told a e f t = record { wrote = told-same (ap length f ∙ string-length a) e f t }
 
 pub unpacked-told : {u u′ : Unpacked} {values out out′ : List ℕ} {r : ℕ} → u ≡ u′ → values ≡ unpackedWords u → Wrote (length values) (u .refused) values out r out′ → UnpackedTo u′ out r out′

@@ -40,7 +40,7 @@ pub record Wrote (n r₀ : ℕ) (values out : List ℕ) (r : ℕ) (out′ : List
 
 -- The n numbers of a paper are told, each of them 0 on a refusal.
 pub record Told (n : ℕ) (p : Paper) (out : List ℕ) (r : ℕ) (out′ : List ℕ) : Type 0 where
-  pub wrote : Wrote n (numberOf p) (valuesOf n p) out r out′
+  pub wrote : Wrote n (numberOf p) (valuesOf p) out r out′
 
 -- A set operation that tells its refusal's number alone, and leaves the words new.
 pub record Left (p : Paper) (new : List ℕ) (r : ℕ) (out′ : List ℕ) : Type 0 where
@@ -49,7 +49,7 @@ pub record Left (p : Paper) (new : List ℕ) (r : ℕ) (out′ : List ℕ) : Typ
 
 -- One that tells n numbers too, in words of their own.
 pub record Made (n : ℕ) (p : Paper) (new out told : List ℕ) (r : ℕ) (out′ told′ : List ℕ) : Type 0 where
-  pub wrote : Wrote n (numberOf p) (valuesOf n p) told r told′
+  pub wrote : Wrote n (numberOf p) (valuesOf p) told r told′
   pub words : out′ ≡ unlessFew n told out new
 
 -- ---- a string unpacked

@@ -13,7 +13,7 @@ use lookahead::UnionAnswer;
 
 fn said_union(a: UnionAnswer) -> Said
     ensures number { λ r. ⌜ r .number ≡ numberOf (unionOnPaper a) ⌝ }
-    ensures value { λ r. ⌜ (r .value ∷ []) ≡ valuesOf 1 (unionOnPaper a) ⌝ }
+    ensures value { λ r. ⌜ (r .value ∷ []) ≡ valuesOf (unionOnPaper a) ⌝ }
 {
     match a {
         UnionAnswer::Added => Said {
@@ -33,7 +33,7 @@ fn said_union(a: UnionAnswer) -> Said
 
 fn said_test(a: TestAnswer) -> Said
     ensures number { λ r. ⌜ r .number ≡ numberOf (testOnPaper a) ⌝ }
-    ensures value { λ r. ⌜ (r .value ∷ []) ≡ valuesOf 1 (testOnPaper a) ⌝ }
+    ensures value { λ r. ⌜ (r .value ∷ []) ≡ valuesOf (testOnPaper a) ⌝ }
 {
     match a {
         TestAnswer::Yes => Said {

@@ -18,7 +18,7 @@ use lookahead::WidthAnswer;
 
 fn said_width(a: WidthAnswer) -> Said
     ensures number { λ r. ⌜ r .number ≡ numberOf (widthOnPaper a) ⌝ }
-    ensures value { λ r. ⌜ (r .value ∷ []) ≡ valuesOf 1 (widthOnPaper a) ⌝ }
+    ensures value { λ r. ⌜ (r .value ∷ []) ≡ valuesOf (widthOnPaper a) ⌝ }
 {
     match a {
         WidthAnswer::Bits(w) => Said {
@@ -34,7 +34,7 @@ fn said_width(a: WidthAnswer) -> Said
 
 fn said_complete(a: CompleteAnswer) -> Said
     ensures number { λ r. ⌜ r .number ≡ numberOf (completeOnPaper a) ⌝ }
-    ensures value { λ r. ⌜ (r .value ∷ []) ≡ valuesOf 1 (completeOnPaper a) ⌝ }
+    ensures value { λ r. ⌜ (r .value ∷ []) ≡ valuesOf (completeOnPaper a) ⌝ }
 {
     match a {
         CompleteAnswer::Yes => Said {
@@ -54,7 +54,7 @@ fn said_complete(a: CompleteAnswer) -> Said
 
 fn said_order(a: OrderAnswer) -> Said
     ensures number { λ r. ⌜ r .number ≡ numberOf (orderOnPaper a) ⌝ }
-    ensures value { λ r. ⌜ (r .value ∷ []) ≡ valuesOf 1 (orderOnPaper a) ⌝ }
+    ensures value { λ r. ⌜ (r .value ∷ []) ≡ valuesOf (orderOnPaper a) ⌝ }
 {
     match a {
         OrderAnswer::Less => Said {
@@ -87,7 +87,7 @@ fn string_number(a: StringAnswer) -> u64
 }
 
 fn string_words(a: StringAnswer) -> [u64; 2]
-    ensures { λ r. ⌜ r ≡ valuesOf 2 (stringOnPaper a) ⌝ }
+    ensures { λ r. ⌜ r ≡ valuesOf (stringOnPaper a) ⌝ }
 {
     match a {
         StringAnswer::Is(t) => [t.lo, t.hi],

@@ -109,13 +109,13 @@ module _ (d : Decoded) where
   push-exactly x = exactly refl (test _ (bad-means d) (test _ (leb-means _ x) (test _ (eqb-means _ 10) (test _ (eps-means d) (answered refl)))))
 
   -- the rows of push, one by one; those of the others are read in the same way
-  push-13 : (x : ℕ) → (pushAnswer x d ≡ refused 13) ↔ (d ≡ bad)
+  push-13 : (x : ℕ) → (pushAnswer x d ≡ refused 13 (0 ∷ 0 ∷ [])) ↔ (d ≡ bad)
   push-13 x = push-exactly x .rows .0
 
-  push-14 : (x : ℕ) → (pushAnswer x d ≡ refused 14) ↔ ((¬ (d ≡ bad)) × (ones (widthIn d) ≤ x))
+  push-14 : (x : ℕ) → (pushAnswer x d ≡ refused 14 (0 ∷ 0 ∷ [])) ↔ ((¬ (d ≡ bad)) × (ones (widthIn d) ≤ x))
   push-14 x = push-exactly x .rows .1 .0
 
-  push-16 : (x : ℕ) → (pushAnswer x d ≡ refused 16) ↔ ((¬ (d ≡ bad)) × ((¬ (ones (widthIn d) ≤ x)) × (lengthIn d ≡ 10)))
+  push-16 : (x : ℕ) → (pushAnswer x d ≡ refused 16 (0 ∷ 0 ∷ [])) ↔ ((¬ (d ≡ bad)) × ((¬ (ones (widthIn d) ≤ x)) × (lengthIn d ≡ 10)))
   push-16 x = push-exactly x .rows .1 .1 .0
 
 module _ (d e : Decoded) where

@@ -1,5 +1,5 @@
 -- Any two answers that meet the contract of a public function on strings are equal: an answer can be read back from what it is on paper. Assumes nothing.
-use mathlib.Core.Path.{_≡_, refl, sym, ap, _∙_}
+use mathlib.Core.Path.{_≡_, refl, sym, ap, ap₂, _∙_}
 use mathlib.Core.Bool.{cond}
 use mathlib.Core.List.{List}
 use Prim.Native.Nat.{ℕ}
@@ -29,16 +29,16 @@ known f back way b r s e g = sym (way r) ∙ ap back (e ∙ sym g) ∙ way s
 
 -- ---- what is on paper is known by its number and its values, where no refusal is 0
 
-pub paper-known : (n : ℕ) (p q : Paper) → (p ≡ refused 0 → ⊥) → (q ≡ refused 0 → ⊥) → numberOf p ≡ numberOf q → valuesOf n p ≡ valuesOf n q → p ≡ q
-paper-known n (refused r) (refused s) hp hq e f = ap refused e
-paper-known n (refused r) (gives v) hp hq e f = absurd (hp (ap refused e))
-paper-known n (gives u) (refused s) hp hq e f = absurd (hq (ap refused (sym e)))
-paper-known n (gives u) (gives v) hp hq e f = ap gives f
+pub paper-known : (p q : Paper) → ((z : List ℕ) → p ≡ refused 0 z → ⊥) → ((z : List ℕ) → q ≡ refused 0 z → ⊥) → numberOf p ≡ numberOf q → valuesOf p ≡ valuesOf q → p ≡ q
+paper-known (refused r y) (refused s z) hp hq e f = ap₂ refused e f
+paper-known (refused r y) (gives v) hp hq e f = absurd (hp y (ap (λ (n : ℕ). refused n y) e))
+paper-known (gives u) (refused s z) hp hq e f = absurd (hq z (ap (λ (n : ℕ). refused n z) (sym e)))
+paper-known (gives u) (gives v) hp hq e f = ap gives f
 
 -- ---- answers are known by what they are on paper
 
 abbrev string-back : Paper → StringAnswer
-string-back (refused r) = S.Refused r
+string-back (refused r z) = S.Refused r
 string-back (gives v) = S.Is (record { lo = getD v 0 0; hi = getD v 1 0 })
 
 pub string-known : (p : Paper) → One stringOnPaper p
@@ -49,7 +49,7 @@ string-known = known stringOnPaper string-back way
     way (S.Refused n) = refl
 
 abbrev width-back : Paper → WidthAnswer
-width-back (refused r) = W.Refused r
+width-back (refused r z) = W.Refused r
 width-back (gives v) = W.Bits (getD v 0 0)
 
 pub width-known : (p : Paper) → One widthOnPaper p
@@ -60,7 +60,7 @@ width-known = known widthOnPaper width-back way
     way (W.Refused n) = refl
 
 abbrev complete-back : Paper → CompleteAnswer
-complete-back (refused r) = C.Refused r
+complete-back (refused r z) = C.Refused r
 complete-back (gives v) = cond (eqb (getD v 0 0) 1) C.Yes C.No
 
 pub complete-known : (p : Paper) → One completeOnPaper p
@@ -72,7 +72,7 @@ complete-known = known completeOnPaper complete-back way
     way (C.Refused n) = refl
 
 abbrev order-back : Paper → OrderAnswer
-order-back (refused r) = O.Refused r
+order-back (refused r z) = O.Refused r
 order-back (gives v) = cond (eqb (getD v 0 0) 0) O.Less (cond (eqb (getD v 0 0) 1) O.Equal O.Greater)
 
 pub order-known : (p : Paper) → One orderOnPaper p

@@ -7,7 +7,7 @@ use mathlib.Core.Logic.{_⊎_}
 use Prim.Native.Nat.{ℕ, _<_}
 use lib.Dec.{ltb}
 use lib.ListN.{length}
-use Rattle.k_tuple.specs.Paper.{Paper, flag, Column, values, _for_else_, Exactly}
+use Rattle.k_tuple.specs.Paper.{flag, Tests, zeros, outcome, Column, values, _for_else_, Exactly}
 use Rattle.k_tuple.proofs.Column.{Means, ltb-means, eqb-means, not-means, or-means, Says, answered, test, exactly}
 use Rattle.k_tuples.specs.Sets.{disjoint, allComplete}
 use Rattle.k_tuples.specs.Words.{roomOf}
@@ -50,9 +50,9 @@ twoRows k None a b c =
     15 for ¬ Suit (widthIn (setIn k a)) (widthIn (setIn k b)) else
     c
 
-two-tests : (k : ℕ) (a b : List ℕ) {None : Type 0} {p : Paper} {c : Column} (none : Bool) → Means none None → Says p c → Says (twoSets k none a b p) (twoRows k None a b c)
+two-tests : (k : ℕ) (a b : List ℕ) {None : Type 0} {c : Column} (none : Bool) → Means none None → (t : Tests) → Says (zeros t) (outcome t) c → Says (zeros t) (outcome (twoSets k none a b t)) (twoRows k None a b c)
 unfolding twoSets
-two-tests k a b none m s =
+two-tests k a b none m t s =
     test _ (outside-means k) (test _ m (test _ (or-means _ _ (bad-means (setIn k a)) (bad-means (setIn k b))) (test _ (not-means _ (suit-means _ _)) s)))
 
 -- ---- the functions
@@ -63,27 +63,27 @@ module _ (k n : ℕ) (a b : List ℕ) where
       11 for roomOf n < length (unionSet k a b) else
       values (flag (ltb (length (membersIn (setIn k a))) (length (unionSet k a b))))))
   unfolding unionAnswer
-  union-exactly = exactly refl (two-tests k a b _ (or-means _ _ (none-means a b) (eqb-means n 0)) (test _ (ltb-means _ _) (answered refl)))
+  union-exactly = exactly refl (two-tests k a b _ (or-means _ _ (none-means a b) (eqb-means n 0)) _ (test _ (ltb-means _ _) (answered refl)))
 
   pub intersect-exactly : Exactly (intersectAnswer k n a b) (
       twoRows k ((NoWords a ⊎ NoWords b) ⊎ (n ≡ 0)) a b (
       11 for roomOf n < length (commonSet k a b) else
       values []))
   unfolding intersectAnswer
-  intersect-exactly = exactly refl (two-tests k a b _ (or-means _ _ (none-means a b) (eqb-means n 0)) (test _ (ltb-means _ _) (answered refl)))
+  intersect-exactly = exactly refl (two-tests k a b _ (or-means _ _ (none-means a b) (eqb-means n 0)) _ (test _ (ltb-means _ _) (answered refl)))
 
   pub join-exactly : Exactly (joinAnswer k n a b) (
       twoRows k ((NoWords a ⊎ NoWords b) ⊎ (n ≡ 0)) a b (
       11 for roomOf n < length (joinSet k a b) else
       values []))
   unfolding joinAnswer
-  join-exactly = exactly refl (two-tests k a b _ (or-means _ _ (none-means a b) (eqb-means n 0)) (test _ (ltb-means _ _) (answered refl)))
+  join-exactly = exactly refl (two-tests k a b _ (or-means _ _ (none-means a b) (eqb-means n 0)) _ (test _ (ltb-means _ _) (answered refl)))
 
 pub disjoint-exactly : (k : ℕ) (a b : List ℕ) → Exactly (disjointAnswer k a b) (
     twoRows k (NoWords a ⊎ NoWords b) a b (
     values (flag (disjoint (membersIn (setIn k a)) (membersIn (setIn k b))))))
 unfolding disjointAnswer
-disjoint-exactly k a b = exactly refl (two-tests k a b _ (none-means a b) (answered refl))
+disjoint-exactly k a b = exactly refl (two-tests k a b _ (none-means a b) _ (answered refl))
 
 pub complete-exactly : (k : ℕ) (a : List ℕ) → Exactly (completeAnswer k a) (
     1 for Outside k else

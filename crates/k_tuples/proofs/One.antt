@@ -18,7 +18,7 @@ use Rattle.k_tuples.specs.declared.TestAnswer.the-variants as T
 -- ---- answers are known by what they are on paper
 
 abbrev union-back : Paper → UnionAnswer
-union-back (refused r) = U.Refused r
+union-back (refused r z) = U.Refused r
 union-back (gives v) = cond (eqb (getD v 0 0) 1) U.Added U.Same
 
 pub union-known : (p : Paper) → One unionOnPaper p
@@ -30,7 +30,7 @@ union-known = known unionOnPaper union-back way
     way (U.Refused n) = refl
 
 abbrev set-back : Paper → SetAnswer
-set-back (refused r) = S.Refused r
+set-back (refused r z) = S.Refused r
 set-back (gives v) = S.Done
 
 pub set-known : (p : Paper) → One setOnPaper p
@@ -41,7 +41,7 @@ set-known = known setOnPaper set-back way
     way (S.Refused n) = refl
 
 abbrev test-back : Paper → TestAnswer
-test-back (refused r) = T.Refused r
+test-back (refused r z) = T.Refused r
 test-back (gives v) = cond (eqb (getD v 0 0) 1) T.Yes T.No
 
 pub test-known : (p : Paper) → One testOnPaper p
