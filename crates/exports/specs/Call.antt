@@ -3,6 +3,7 @@ use Prim.Native.Nat.{ℕ}
 use mathlib.Core.Path.{_≡_}
 use mathlib.Core.List.{List, [], _∷_}
 use lib.ListN.{length, getD}
+use Rattle.cfg.specs.Write.{Bytes}
 use Rattle.k_tuples.specs.Work.{Answer}
 use Rattle.analysis.specs.Analysis.{Analysis, analyse}
 use Rattle.engine.specs.declared.Lookahead.{Lookahead}
@@ -24,8 +25,10 @@ worked k c table result scratch = analyse k c table (length result) (length scra
 abbrev pub answerFor : (k c : ℕ) (table result scratch : List ℕ) → Lookahead
 answerFor k c table result scratch = answerOf (worked k c table result scratch)
 
--- The record is told in the words of answer, and the engine's promise is kept in those of result and scratch.
+-- The record is told in the words of answer, and the engine's promise is kept in those of result and scratch; the table is bytes, so that all that is
+-- demanded of the engine's call holds of this one.
 pub record Called (k c : ℕ) (table result scratch answer : List ℕ) (r : ℕ) (result′ scratch′ answer′ : List ℕ) : Type 0 where
   pub wrote : Wrote 16 (answerFor k c table result scratch .refusal) (recordWords (answerFor k c table result scratch)) answer r answer′
+  pub bytes : Bytes table
   pub result-words : result′ ≡ unlessFew 16 answer result (resultAfter c (resultNeeded c table) result (worked k c table result scratch))
   pub scratch-words : scratch′ ≡ unlessFew 16 answer scratch (scratchAfter (scratchNeeded c table) scratch (worked k c table result scratch))
