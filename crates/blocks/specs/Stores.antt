@@ -9,7 +9,7 @@ use lib.ListN.{length, take, drop, set, replicate}
 use Rattle.k_tuple.specs.Strings.{Str}
 use Rattle.k_tuple.specs.Packed.{packed}
 use Rattle.k_tuple.specs.declared.Terminals.{Terminals}
-use Rattle.k_tuples.specs.Sets.{union, joinSets}
+use Rattle.k_tuples.specs.Sets.{union, joinSets, allComplete}
 use Rattle.k_tuples.specs.States.{State, setOf, sameSets}
 use Rattle.k_tuples.specs.Words.{roomOf, grown}
 use Rattle.k_tuples.specs.Held.{setWords, Fits, Holds}
@@ -121,6 +121,10 @@ pub record CopiedFirst (b m l n : ℕ) (vs ws ws′ : List ℕ) : Type 0 where
 -- whether the first n sets of both words are the same
 pub record ComparedFirst (b m l n : ℕ) (r : Bool) (ws vs : List ℕ) : Type 0 where
   pub step : (k w : ℕ) → IsStored k w b m ws → IsStored k w b l vs → r ≡ sameSets (take n (setsIn b m ws)) (take n (setsIn b l vs))
+
+-- whether every member of set i is complete at k
+pub record AskedComplete (k b m i : ℕ) (r : Bool) (ws : List ℕ) : Type 0 where
+  pub step : (j w : ℕ) → IsStored j w b m ws → r ≡ allComplete k (setOf (setsIn b m ws) i)
 
 -- ---- the first sets
 

@@ -3,7 +3,7 @@ use k_tuple::Terminals;
 use k_tuples::set::Grown;
 ghost use Prim.Native.Nat.{_≤_, _<_};
 ghost use lib.ListN.{length};
-ghost use Rattle.blocks.specs.Stores.{Sets, Both, WithOne, WithTwo, WithString, Only, PutSingle, Joined, JoinAdded, United, UnitedBlock, Copied, CopiedBlock, Emptied, EmptiedFirst, CopiedFirst, ComparedFirst};
+ghost use Rattle.blocks.specs.Stores.{Sets, Both, WithOne, WithTwo, WithString, Only, PutSingle, Joined, JoinAdded, United, UnitedBlock, Copied, CopiedBlock, Emptied, EmptiedFirst, CopiedFirst, ComparedFirst, AskedComplete};
 
 // Makes block out the join of two sets.
 pub fn join_into(
@@ -162,4 +162,14 @@ pub fn same_first(xs: &[u64], ys: &[u64], b: usize, m: usize, l: usize, n: usize
         i += 1;
     }
     true
+}
+
+// Whether every member of block at is complete at k.
+pub fn is_complete(words: &[u64], b: usize, m: usize, at: usize, k: u64) -> bool
+    requires { ⌜ Sets b m (now words) × (at < m) ⌝ }
+    ensures { λ r. ⌜ AskedComplete k b m at r (now (words .entry)) ⌝ }
+{
+    let from = at * b;
+    let end = from + b;
+    k_tuples::set::all_complete(k, &words[from..end])
 }

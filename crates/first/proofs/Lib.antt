@@ -1,5 +1,6 @@
 pub mod Codes
 pub mod Spelling
+pub mod Short
 pub mod Walk
 pub mod Passing
 pub mod Rounds

@@ -8,25 +8,26 @@ use native.Mathlib.Omega.{arith}
 use borrow.Author.Tests.{ltb-true, ltb-false, le-leb, lt-leb}
 use lib.Dec.{ltb}
 use lib.ListN.{length, set, take, drop, replicate, drop-of-length-le}
-use lib.Seq.{getD-set-same, set-set, set-getD, take-set-le, drop-drop}
-use Rattle.k_tuple.specs.Strings.{Str, ones}
-use Rattle.k_tuples.specs.Sets.{joinSets}
+use lib.Seq.{getD-set-same, getD-take, set-set, set-getD, take-set-le, drop-drop}
+use Rattle.k_tuple.specs.Strings.{Str, eps, ones}
+use Rattle.k_tuples.specs.Sets.{Sorted, joinSets, allComplete}
 use Rattle.k_tuples.specs.States.{State, setOf}
 use Rattle.k_tuples.specs.Words.{grown, isFull}
-use Rattle.k_tuples.specs.Blocks.{IsStored}
+use Rattle.k_tuples.specs.Blocks.{Kept, IsStored}
 use Rattle.k_tuples.specs.Work.{Answer, refused, got, _>>=_, within}
 use Rattle.k_tuples.specs.declared.set.Grown.{Grown}
 use Rattle.k_tuples.proofs.Filling.{full-grown}
-use Rattle.k_tuples.proofs.Blocks.{in-sets}
+use Rattle.k_tuples.proofs.Blocks.{in-sets, kept-at}
 use Rattle.blocks.specs.Stores.{Turned}
 use Rattle.blocks.proofs.Stores.{turned-store, turned-sets, turned-beyond, turned-then, as-turned, filled-turned, zeros-are-stored}
 use Rattle.cfg.specs.Written.{symbolOf}
-use Rattle.first_theory.specs.First.{parts}
-use Rattle.first_theory.specs.Compute.{partSet, joinParts}
+use Rattle.first_theory.specs.First.{Part, parts}
+use Rattle.first_theory.specs.Compute.{partSet, joinParts, rightSide}
 use Rattle.first.specs.declared.Setup.{Setup}
 use Rattle.first.specs.Codes.{partLength, partOf}
 use Rattle.first.specs.Steps.{resultSets, scratchSets, oldSets, room, Ready, Free, partJoin, InWork, Placed, Made}
 use Rattle.first.proofs.Codes.{part-at}
+use Rattle.first.proofs.Short.{parts-idle, first-idle}
 
 -- ---- room for a set
 
@@ -49,6 +50,10 @@ module _ (u : Setup) (new : List Str) where
 
     pub told-fits : isFull r ≡ false → within (room u) new ≡ got new
     told-fits e = within-fits (ltb-false _ _ (told false e))
+
+-- a set of the buffers has room
+pub kept-within : (u : Setup) {k : ℕ} {a : List Str} → Kept k (u .w) (u .b) a → within (room u) a ≡ got a
+kept-within u {a = a} h = within-fits u a (omega (arith, h .room))
 
 -- buffers that hold sets again
 pub still-ready : {u : Setup} {k : ℕ} {result scratch result′ scratch′ : List ℕ} → Ready u k result scratch
@@ -93,6 +98,12 @@ module _ {u : Setup} {at k : ℕ} {product : List Str} {result scratch result′
   placed-product r f =
       ap (λ (F : State). setOf F at) (turned-sets (d .held))
       ∙ getD-set-same (resultSets u result) at product [] (in-sets (r .result-store) (f .within))
+
+  -- it is a set at k, and has room
+  pub placed-kept : Ready u k result scratch → Free u at → Kept k (u .w) (u .b) product
+  placed-kept r f =
+      let store = turned-store (d .held) in
+      subst (Kept k (u .w) (u .b)) (placed-product r f) (kept-at (resultSets u result′) at (store .stored .kept) (in-sets store (f .within)))
 
   pub placed-then : {next : List Str} {result″ scratch″ : List ℕ} → Placed u at k next result′ scratch′ result″ scratch″ → Placed u at k next result scratch result″ scratch″
   placed-then {next} {result″} {scratch″} t =
@@ -192,6 +203,24 @@ module _ {u : Setup} {at k : ℕ} {right result₀ scratch₀ : List ℕ} {j : �
         scratch-beyond = turned-beyond (walk .placed .worked);
       }
 
+  -- everything in hand is complete
+  pub walk-stop : Ready u k result₀ scratch₀ → Free u at → allComplete k (setOf (resultSets u result) at) ≡ true
+      → Made u at k (joinAll u k result₀ (setOf (resultSets u result₀) at) right) false result₀ scratch₀ result scratch
+  walk-stop ready free all =
+      let kept = placed-kept (walk .placed) ready free in
+      record {
+        over = λ n. absurd (false≢true n);
+        done = λ _. record {
+          product = walk .product;
+          made =
+              sym (walk .to-come)
+              ∙ parts-idle (room u) k (oldSets u result₀) (walk .product) (kept .sorted) (kept-within u kept) (rw (← placed-product (walk .placed) ready free) all) (parts (map symbolOf (drop j right)));
+          placed = walk .placed;
+        };
+        result-beyond = turned-beyond (walk .placed .held);
+        scratch-beyond = turned-beyond (walk .placed .worked);
+      }
+
   -- one part more
   module _ (ready : Ready u k result₀ scratch₀) (free : Free u at) (more : j < length right) (end : ℕ) (ends : end ≡ j + partLength (drop j right)) where
     next : joinAll u k result₀ (setOf (resultSets u result₀) at) right
@@ -221,18 +250,71 @@ module _ {u : Setup} {at k : ℕ} {right result₀ scratch₀ : List ℕ} {j : �
           let d = m .done e in
           record { below = l; product = d .product; placed = placed-then (walk .placed) (d .placed); to-come = sym (next ∙ rw (d .made)) }
 
--- ---- from {ε}
+-- ---- from a first product
 
 -- what is made from a first product is made from the buffers at entry
-pub start-made : {u : Setup} {at k : ℕ} {first : List Str} {result scratch result′ : List ℕ} → Ready u k result scratch → Free u at
-    → Turned k (u .w) (u .b) (u .rsets) (set (resultSets u result) at first) result result′ → (f : State → List Str → Answer (List Str)) {full : Bool} {result″ scratch″ : List ℕ}
-    → Made u at k (f (oldSets u result′) (setOf (resultSets u result′) at)) full result′ scratch result″ scratch″ → Made u at k (f (oldSets u result) first) full result scratch result″ scratch″
-start-made {first = first} ready free h f m =
-    let started = placed-first first ready h in
+pub start-made : {u : Setup} {at k : ℕ} {first : List Str} {result scratch result′ scratch′ : List ℕ} → Ready u k result scratch → Free u at
+    → Placed u at k first result scratch result′ scratch′ → (f : State → List Str → Answer (List Str)) {full : Bool} {result″ scratch″ : List ℕ}
+    → Made u at k (f (oldSets u result′) (setOf (resultSets u result′) at)) full result′ scratch′ result″ scratch″ → Made u at k (f (oldSets u result) first) full result scratch result″ scratch″
+start-made ready free started f m =
     let same = ap₂ f (placed-old started free) (placed-product started ready free) in
     record {
       over = λ e. sym same ∙ m .over e;
       done = λ e. let d = m .done e in record { product = d .product; made = sym same ∙ d .made; placed = placed-then started (d .placed) };
-      result-beyond = m .result-beyond ∙ turned-beyond h;
-      scratch-beyond = m .scratch-beyond;
+      result-beyond = m .result-beyond ∙ turned-beyond (started .held);
+      scratch-beyond = m .scratch-beyond ∙ turned-beyond (started .worked);
     }
+
+-- a product that needs no join is made
+pub placed-made : {u : Setup} {at k : ℕ} {product : List Str} {answer : Answer (List Str)} {result scratch result′ scratch′ : List ℕ} → answer ≡ got product
+    → Placed u at k product result scratch result′ scratch′ → Made u at k answer false result scratch result′ scratch′
+placed-made {product = product} e d = record {
+  over = λ n. absurd (false≢true n);
+  done = λ _. record { product = product; made = e; placed = d };
+  result-beyond = turned-beyond (d .held);
+  scratch-beyond = turned-beyond (d .worked);
+}
+
+-- set i of the result, copied to the scratch and from there, is placed
+pub copied-placed : {u : Setup} {at k i : ℕ} {result scratch result′ scratch′ : List ℕ} → Ready u k result scratch → i < u .n
+    → Turned k (u .w) (u .b) (u .ssets) (set (scratchSets u scratch) (u .n) (setOf (resultSets u result) i)) scratch scratch′
+    → Turned k (u .w) (u .b) (u .rsets) (set (resultSets u result) at (setOf (scratchSets u scratch′) (u .n))) result result′
+    → Placed u at k (setOf (oldSets u result) i) result scratch result′ scratch′
+copied-placed {u} {at} {k} {i} {result} {scratch} {result′} ready h first second =
+    let x = setOf (resultSets u result) i in
+    let there = ap (λ (F : State). setOf F (u .n)) (turned-sets first) ∙ getD-set-same (scratchSets u scratch) (u .n) x [] (in-sets (ready .scratch-store) (ready .work)) in
+    record {
+      held =
+          subst (λ (a : List Str). Turned k (u .w) (u .b) (u .rsets) (set (resultSets u result) at a) result result′)
+          (there ∙ sym (getD-take (u .n) (resultSets u result) i [] h)) second;
+      work = x;
+      worked = first;
+    }
+
+-- the set of a part has been placed, by another name of the part
+pub placed-part : {u : Setup} {at k : ℕ} {result scratch result′ scratch′ : List ℕ} {p q : Part} → p ≡ q
+    → Placed u at k (partSet k (oldSets u result) p) result scratch result′ scratch′ → Placed u at k (partSet k (oldSets u result) q) result scratch result′ scratch′
+placed-part {u} {at} {k} {result} {scratch} {result′} {scratch′} e d = subst (λ (p : Part). Placed u at k (partSet k (oldSets u result) p) result scratch result′ scratch′) e d
+
+-- no parts give {ε}
+pub no-parts : (c k : ℕ) (X : State) (right : List ℕ) → length right ≤ 0 → rightSide c k X (map symbolOf right) ≡ got (eps ∷ [])
+unfolding rightSide joinParts
+no-parts c k X [] none = refl
+no-parts c k X (r ∷ right) none = absurd (omega arith)
+
+-- a right side whose first part has been placed, and the others joined to it
+pub parts-made : {u : Setup} {at k : ℕ} (right : List ℕ) {end : ℕ} (rest : List ℕ) {full : Bool} {result scratch result′ scratch′ result″ scratch″ : List ℕ}
+    → Ready u k result scratch → Free u at → 0 < length right → end ≡ partLength right → rest ≡ drop end right
+    → Placed u at k (partSet k (oldSets u result) (partOf (take end right))) result scratch result′ scratch′
+    → Made u at k (joinAll u k result′ (setOf (resultSets u result′) at) rest) full result′ scratch′ result″ scratch″
+    → Made u at k (rightSide (room u) k (oldSets u result) (map symbolOf right)) full result scratch result″ scratch″
+unfolding rightSide
+parts-made {u} {at} {k} right {end} rest {full} {result} {scratch} {result″ = result″} {scratch″ = scratch″} ready free some ends behind first m =
+    let X = oldSets u result in
+    let q = partOf (take end right) in
+    let kept = placed-kept first ready free in
+    let split : parts (map symbolOf right) ≡ q ∷ parts (map symbolOf rest) = part-at right 0 some ∙ rw (behind, ends) in
+    let same = ap (joinParts (room u) k X (eps ∷ [])) split
+    ∙ first-idle (room u) k X q (parts (map symbolOf rest)) (kept .sorted) (λ y i. (kept .fit y i .some, kept .fit y i .short)) (kept-within u kept) in
+    subst (λ (a : Answer (List Str)). Made u at k a full result scratch result″ scratch″) (sym same)
+    (start-made ready free first (λ X b. joinParts (room u) k X b (parts (map symbolOf rest))) m)

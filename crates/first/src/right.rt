@@ -1,4 +1,5 @@
-// FIRST of a right side: its parts joined from left to right, each join made in the scratch and taken over as the product in hand.
+// FIRST of a right side: its parts joined from left to right, each join made in the scratch and taken over as the product in hand. The first part
+// is the first product, and where every string in hand is complete the parts that are left change nothing.
 ghost use mathlib.Core.Path.{_≡_};
 ghost use mathlib.Core.List.{map};
 ghost use Prim.Native.Nat.{_+_, _/_, _≤_, _<_};
@@ -8,9 +9,9 @@ ghost use Rattle.k_tuples.specs.States.{setOf};
 ghost use Rattle.k_tuples.specs.Work.{within};
 ghost use Rattle.cfg.specs.Written.{symbolOf};
 ghost use Rattle.first_theory.specs.First.{run as runPart, single, parts};
-ghost use Rattle.first_theory.specs.Compute.{str, joinParts, rightSide};
+ghost use Rattle.first_theory.specs.Compute.{str, partSet, joinParts, rightSide};
 ghost use Rattle.first.specs.Codes.{half, partLength, partOf, AllSlots};
-ghost use Rattle.first.specs.Steps.{Ready, Free, Symbols, PartIn, InWork, Made, partJoin, resultSets, oldSets, room};
+ghost use Rattle.first.specs.Steps.{Ready, Free, Symbols, PartIn, InWork, Placed, Made, partJoin, resultSets, oldSets, room};
 use crate::Setup;
 use k_tuple::Terminals;
 use k_tuple::well::cut;
@@ -161,6 +162,9 @@ fn join_parts(
 {
     let mut j = 0;
     while j < right.len() {
+        if blocks::is_complete(result, u.b, u.rsets, at, k) {
+            return false;
+        }
         let end = part_end(right, j);
         if join_part(result, scratch, u, at, k, &right[j..end]) {
             return true;
@@ -170,7 +174,54 @@ fn join_parts(
     false
 }
 
-// Makes set at of the result the product of the parts of a right side. Says whether a product was too large.
+// Makes set at of the result a copy of set i, by way of the scratch: two parts of one slice cannot be lent at once.
+fn put_nonterminal(result: &mut [u64], scratch: &mut [u64], u: Setup, at: usize, k: u64, i: usize)
+    requires { ⌜ (Ready u k (now result) (now scratch) × Free u at) × PartIn u (single i) ⌝ }
+    ensures { λ _. ⌜ Placed u at k (partSet k (oldSets u (now (result .entry))) (single i)) (now (result .entry)) (now (scratch .entry)) (now (result .exit)) (now (scratch .exit)) ⌝ }
+{
+    blocks::copy_block(scratch, result, u.b, u.ssets, u.rsets, i, u.n);
+    blocks::copy_block(result, scratch, u.b, u.rsets, u.ssets, u.n, at);
+}
+
+// Makes set at of the result the set of a run of terminals.
+fn put_run(result: &mut [u64], scratch: &mut [u64], u: Setup, at: usize, k: u64, part: &[u16])
+    requires { ⌜ (Ready u k (now result) (now scratch) × Free u at) × ((1 ≤ length (now part)) × PartIn u (runPart (map half (now part)))) ⌝ }
+    ensures { λ _. ⌜ Placed u at k (partSet k (oldSets u (now (result .entry))) (runPart (map half (now (part .entry))))) (now (result .entry)) (now (scratch .entry)) (now (result .exit)) (now (scratch .exit)) ⌝ }
+{
+    blocks::put_single(result, run_string(part, k, u.w), u.b, u.rsets, at);
+}
+
+// Makes set at of the result the set of a part.
+fn put_codes(result: &mut [u64], scratch: &mut [u64], u: Setup, at: usize, k: u64, part: &[u16])
+    requires { ⌜ (Ready u k (now result) (now scratch) × Free u at) × ((1 ≤ length (now part)) × PartIn u (partOf (now part))) ⌝ }
+    ensures { λ _. ⌜ Placed u at k (partSet k (oldSets u (now (result .entry))) (partOf (now (part .entry)))) (now (result .entry)) (now (scratch .entry)) (now (result .exit)) (now (scratch .exit)) ⌝ }
+{
+    let code = part[0];
+    if code % 2 == 0 {
+        put_nonterminal(result, scratch, u, at, k, index_of(code));
+        return;
+    }
+    put_run(result, scratch, u, at, k, part);
+}
+
+// The product of a right side that has a part: the first part is in hand at once, and the others are joined to it.
+fn first_of_parts(
+    result: &mut [u64],
+    scratch: &mut [u64],
+    u: Setup,
+    at: usize,
+    k: u64,
+    right: &[u16],
+) -> bool
+    requires { ⌜ (Ready u k (now result) (now scratch) × Free u at) × (Symbols u (map symbolOf (now right)) × (1 ≤ length (now right))) ⌝ }
+    ensures { λ r. ⌜ Made u at k (rightSide (room u) k (oldSets u (now (result .entry))) (map symbolOf (now (right .entry)))) r (now (result .entry)) (now (scratch .entry)) (now (result .exit)) (now (scratch .exit)) ⌝ }
+{
+    let end = part_end(right, 0);
+    put_codes(result, scratch, u, at, k, &right[..end]);
+    join_parts(result, scratch, u, at, k, &right[end..])
+}
+
+// Makes set at of the result the product of the parts of a right side, {ε} where there are none. Says whether a product was too large.
 pub fn first_of_right_side(
     result: &mut [u64],
     scratch: &mut [u64],
@@ -182,6 +233,9 @@ pub fn first_of_right_side(
     requires { ⌜ (Ready u k (now result) (now scratch) × Free u at) × Symbols u (map symbolOf (now right)) ⌝ }
     ensures { λ r. ⌜ Made u at k (rightSide (room u) k (oldSets u (now (result .entry))) (map symbolOf (now (right .entry)))) r (now (result .entry)) (now (scratch .entry)) (now (result .exit)) (now (scratch .exit)) ⌝ }
 {
+    if 0 < right.len() {
+        return first_of_parts(result, scratch, u, at, k, right);
+    }
     blocks::put_single(result, eps(u.w), u.b, u.rsets, at);
-    join_parts(result, scratch, u, at, k, right)
+    false
 }
