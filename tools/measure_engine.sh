@@ -6,7 +6,8 @@
 # Both are the program tests/bench/analysis.c for x86-64 by one compiler, the toolchain's own, linked with the static library or with the C engine. c is
 # the least that serves, found by halving: where it serves, each greater one does. Both must leave the same record and the same result words.
 # On another processor both run under the toolchain's emulator, whose trace names each block of instructions that is run. A run with blocks of one
-# instruction tells where instructions begin, so that those of each block are known: a count is exact and repeats. On x86-64 perf counts.
+# instruction tells where instructions begin, so that those of each block are known: a count is exact and repeats. On x86-64 perf counts, or valgrind
+# where perf has no counter (a count that is exact and repeats, too).
 # A count is the difference between a run of two analyses and a run of one: what a program does before and after is not in it.
 set -euo pipefail
 cd "$(dirname "$0")/.."
@@ -59,14 +60,27 @@ END {
     printf "%.0f\n", all
 }'
 
+counter=valgrind
+if [ -x "$emulator" ]; then
+    counter=emulator
+elif perf stat -x, -e instructions:u -o "$room/perf" true >/dev/null 2>&1 && grep -q '^[0-9]' "$room/perf"; then
+    counter=perf
+fi
 count() { # PROGRAM TABLE K C TIMES: the instructions of a run
-    if [ -x "$emulator" ]; then
+    case $counter in
+    emulator)
         "$emulator" -one-insn-per-tb -d in_asm "${loader[@]}" "$room/$1" "${@:2}" 2>&1 >"$room/out" | sed -n 's/^0x\(.*\):.*/\1/p' >"$room/begins"
         "$emulator" -d exec,nochain,in_asm "${loader[@]}" "$room/$1" "${@:2}" 2>&1 >"$room/out" | awk "$counting" "$room/begins" -
-    else
+        ;;
+    perf)
         perf stat -x, -e instructions:u -o "$room/perf" "${loader[@]}" "$room/$1" "${@:2}" >"$room/out"
         sed -n 's/,.*instructions.*//p' "$room/perf"
-    fi
+        ;;
+    valgrind)
+        valgrind --tool=callgrind --callgrind-out-file="$room/calls" --log-file="$room/log" "${loader[@]}" "$room/$1" "${@:2}" >"$room/out"
+        sed -n 's/.*Collected : *//p' "$room/log"
+        ;;
+    esac
 }
 an_analysis() { # PROGRAM TABLE K C
     echo $(($(count "$@" 2) - $(count "$@" 1)))
