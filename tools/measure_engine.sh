@@ -1,11 +1,12 @@
 #!/bin/bash
-# Measures the engine's call against the same call in C (tests/bench/engine.c): instructions of a whole analysis, from the bytes of a table to the last set.
+# Measures the engine's call against the same call in C, by single inserts (tests/bench/engine.c) and by runs and merging (tests/bench/engine_fast.c):
+# instructions of a whole analysis, from the bytes of a table to the last set.
 #
 #   tools/measure_engine.sh FOLDER [K..]      for each *.table of the folder; at 2 3 4 if no k is named
 #
-# Both are the program tests/bench/analysis.c for x86-64 by one compiler, the toolchain's own, linked with the static library or with the C engine. c is
-# the least that serves, found by halving: where it serves, each greater one does. Both must leave the same record and the same result words.
-# On another processor both run under the toolchain's emulator, whose trace names each block of instructions that is run. A run with blocks of one
+# All are the program tests/bench/analysis.c for x86-64 by one compiler, the toolchain's own, linked with the static library or with a C engine. c is
+# the least that serves, found by halving: where it serves, each greater one does. All must leave the same record and the same result words.
+# On another processor all run under the toolchain's emulator, whose trace names each block of instructions that is run. A run with blocks of one
 # instruction tells where instructions begin, so that those of each block are known: a count is exact and repeats. On x86-64 perf counts, or valgrind
 # where perf has no counter (a count that is exact and repeats, too).
 # A count is the difference between a run of two analyses and a run of one: what a program does before and after is not in it.
@@ -32,8 +33,10 @@ link() { # PROGRAM FILE..
 compile tests/bench/analysis.c ours.o -DCALL=jomankitu_lookahead_sets
 compile tests/bench/analysis.c c.o -DCALL=analyse
 compile tests/bench/engine.c engine.o
+compile tests/bench/engine_fast.c engine_fast.o
 link ours "$room/ours.o" target/staticlib/libexports.a
 link c "$room/c.o" "$room/engine.o"
+link fast "$room/c.o" "$room/engine_fast.o"
 loader=("$tools/lib/ld-linux-x86-64.so.2" --library-path "$tools/lib")
 
 run() { # PROGRAM TABLE K C TIMES: the exit status is the refusal
@@ -87,7 +90,7 @@ an_analysis() { # PROGRAM TABLE K C
 }
 refusal() { # TABLE K C
     local status=0
-    run c "$@" 1 >"$room/out" || status=$?
+    run fast "$@" 1 >"$room/out" || status=$?
     echo $status
 }
 least() { # TABLE K: the least c that serves, or nothing
@@ -99,7 +102,9 @@ least() { # TABLE K: the least c that serves, or nothing
     done
     echo $high
 }
-printf '%-10s %2s %5s %12s %12s %6s\n' grammar k c ours C ratio
+row='%-10s %2s %5s %13s %13s %6s %13s %6s\n'
+over() { awk -v a="$1" -v b="$2" 'BEGIN { printf "%.2f", a / b }'; }
+printf "$row" grammar k c ours C ratio 'fast C' ratio
 for table in "$folder"/*.table; do
     name=$(basename "$table" .table)
     for k; do
@@ -108,10 +113,10 @@ for table in "$folder"/*.table; do
             echo "$name $k: refused $(refusal "$table" "$k" 1024) at c = 1024"
             continue
         fi
-        run ours "$table" "$k" "$c" 1 >"$room/one"
-        run c "$table" "$k" "$c" 1 >"$room/two"
-        cmp "$room/one" "$room/two"
-        a=$(an_analysis ours "$table" "$k" "$c") b=$(an_analysis c "$table" "$k" "$c")
-        printf '%-10s %2s %5s %12s %12s %6s\n' "$name" "$k" "$c" "$a" "$b" "$(awk -v a="$a" -v b="$b" 'BEGIN { printf "%.2f", a / b }')"
+        for program in ours c fast; do run $program "$table" "$k" "$c" 1 >"$room/$program.words"; done
+        cmp "$room/ours.words" "$room/c.words"
+        cmp "$room/ours.words" "$room/fast.words"
+        ours=$(an_analysis ours "$table" "$k" "$c") plain=$(an_analysis c "$table" "$k" "$c") fast=$(an_analysis fast "$table" "$k" "$c")
+        printf "$row" "$name" "$k" "$c" "$ours" "$plain" "$(over "$ours" "$plain")" "$fast" "$(over "$ours" "$fast")"
     done
 done
