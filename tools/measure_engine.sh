@@ -8,7 +8,7 @@
 # the least that serves, found by halving: where it serves, each greater one does. All must leave the same record and the same result words.
 # On another processor all run under the toolchain's emulator, whose trace names each block of instructions that is run. A run with blocks of one
 # instruction tells where instructions begin, so that those of each block are known: a count is exact and repeats. On x86-64 perf counts, or valgrind
-# where perf has no counter (a count that is exact and repeats, too).
+# where perf has no counter; its counts are exact and repeat, too, but are not the emulator's: compare within one way of counting.
 # A count is the difference between a run of two analyses and a run of one: what a program does before and after is not in it.
 set -euo pipefail
 cd "$(dirname "$0")/.."

@@ -2,16 +2,14 @@
 use mathlib.Core.Path.{_≡_, refl, sym, ap, _∙_}
 use mathlib.Core.Bool.{Bool, true, true≢false}
 use mathlib.Core.List.{List, [], _∷_, List·Memᴰ·head as here, List·Memᴰ·not-nil as not-nil, List·Memᴰ·eq-of-singleton as only}
-use Prim.Native.Nat.{ℕ, _-_, _≤_, _<_}
-use native.Mathlib.Omega.{arith}
+use Prim.Native.Nat.{ℕ, _≤_}
 use lib.Dec.{T}
-use lib.ListN.{length, take}
-use lib.Seq.{take-all}
-use Rattle.k_tuple.specs.Strings.{Str, eps, slots, lengthOf, complete, join}
+use Rattle.k_tuple.specs.Strings.{Str, eps, lengthOf, complete, join}
 use Rattle.k_tuples.specs.Sets.{_∈_, Sorted, Joined, stays, meets, joinSets, allComplete}
 use Rattle.k_tuples.specs.States.{State}
 use Rattle.k_tuples.specs.Work.{got, within}
 use Rattle.k_tuples.proofs.Sets.{joinSets-only, allComplete-means}
+use Rattle.k_tuples.proofs.Classes.{join-eps}
 use Rattle.first_theory.specs.First.{Part}
 use Rattle.first_theory.specs.Compute.{partSet, joinParts}
 
@@ -37,12 +35,6 @@ parts-idle c k X a s fits all (p ∷ ps) =
     rw (complete-stays k a (partSet k X p) s (λ x m. is-true (complete k x) (allComplete-means k a .0 (rw all tt) x m)), fits) (parts-idle c k X a s fits all ps)
 
 -- ---- the first part
-
--- ε joined with a string of a set at k is that string.
-join-eps : (k : ℕ) (y : Str) → 1 ≤ lengthOf y → lengthOf y ≤ k → join k eps y ≡ y
-join-eps k eps p h = refl
-join-eps k (slots []) p h = absurd (omega arith)
-join-eps k (slots (a ∷ t)) p h = let all : k - 0 ≡ k = omega arith in ap slots (ap (λ (n : ℕ). take n (a ∷ t)) all ∙ take-all k (a ∷ t) h)
 
 -- A set joined to {ε} is the set.
 eps-idle : (k : ℕ) (b : List Str) → Sorted b → ((y : Str) → y ∈ b → (1 ≤ lengthOf y) × (lengthOf y ≤ k)) → joinSets k (eps ∷ []) b ≡ b
