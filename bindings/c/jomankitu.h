@@ -31,10 +31,10 @@ uint64_t jomankitu_eps(uint64_t m, uint64_t *out, size_t out_len);
 /* The end marker alone, for the greatest terminal m. out gets 2 words. */
 uint64_t jomankitu_end(uint64_t m, uint64_t *out, size_t out_len);
 
-/* The string of the first k of a list of terminals, for the greatest terminal m. out gets 2 words. */
+/* The string of the first k of a list of terminals, for the greatest terminal m; 21 where 0 stands before the last of them. out gets 2 words. */
 uint64_t jomankitu_make(const uint16_t *list, size_t list_len, uint64_t k, uint64_t m, uint64_t *out, size_t out_len);
 
-/* A string with the terminal x behind it, unless it has ended. out gets 2 words. */
+/* A string with the terminal x behind it; 21 where it has ended. out gets 2 words. */
 uint64_t jomankitu_push(uint64_t lo, uint64_t hi, uint64_t x, uint64_t *out, size_t out_len);
 
 /* The first k slots of a string. out gets 2 words. */

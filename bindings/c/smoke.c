@@ -45,7 +45,7 @@ static int listing(void) {
     return jomankitu_set_of(8 * SIZE - 1, 0, 0, 2, 3, 1, C, out, 2) || out[0] || out[1] ? 9 : 0;
 }
 static int strings(void) {
-    static const uint16_t list[] = {6, 7, 8};
+    static const uint16_t list[] = {6, 7, 8}, early[] = {5, 0, 6};
     static const uint64_t five_six_seven[11] = {3, 5, 6, 7};
     uint64_t x[2], y[2];
     if (jomankitu_width(7, out, 1) || out[0] != 4 || jomankitu_width(4095, out, 1) != 14 || out[0]) return 20;
@@ -62,6 +62,7 @@ static int strings(void) {
     if (jomankitu_cut(x[0], x[1], 2, out, 2) || out[0] != 101 || out[1] != TWO) return 27;
     if (jomankitu_complete(x[0], x[1], 3, out, 1) || out[0] != 1 || jomankitu_complete(x[0], x[1], 4, out, 1) || out[0]) return 28;
     if (jomankitu_order(15, ONE, 101, TWO, out, 1) || out[0] || jomankitu_order(15, ONE, 0, ONE, out, 1) || out[0] != 2) return 29;
+    if (jomankitu_push(0, ONE, 5, out, 2) != 21 || out[0] || out[1] || jomankitu_make(early, 3, 3, 8, out, 2) != 21 || jomankitu_make(early, 3, 2, 8, out, 2)) return 31;
     return jomankitu_push(15, ONE, 5, out, 2) != 17 || jomankitu_unpack(1, 0, out, 11) != 13 ? 30 : 0;
 }
 static int of_sets(void) {

@@ -9,12 +9,15 @@ VECTORS has a row a line: operation | arguments | answer, its first line names t
   sets      union, intersection, join: K ROOM | first | second;  disjoint: K | first | second;  complete: K | set
 
 STDOUT gets the row's answer as it stands. Nothing here works an answer out: the width of a case `width M` is read off the answer to `eps M` or `end M`.
-Rows are left out that speak of a later request, and lists with a number that a terminal's type cannot hold; how many is printed.
+Rows are left out that speak of a later request or that a request has replaced, and lists with a number that a terminal's type cannot hold; how many is
+printed.
 """
 import sys
 from collections import Counter
 
-LATER = {"make_k2", "push_k2", "complete_k5"}
+LATER = {"complete_k5"}
+# rows of a request, by the operation that they are now the rule of
+NOW = {"make_k2": "make", "push_k2": "push"}
 
 
 def cells(row):
@@ -50,6 +53,16 @@ def set_case(op, args):
     return line(op, *head, *sets)
 
 
+def replaced(op, args, answer):
+    """Whether a row tells, as the rule once was, that terminals behind an end marker are passed over in silence: a string made with fewer slots than the
+    first k of its list, a push that gives the string itself. The rows of request K2 stand for such."""
+    if op not in ("make", "push") or answer.startswith("refused"):
+        return False
+    if op == "push":
+        return answer == args[0]
+    return int(answer.split(",")[1], 16) >> 56 & 15 < min(int(args[0]), len(numbers(args[2], 10)))
+
+
 def width_cases(rows):
     """The widths that the answers to eps and end carry, each once."""
     seen = {}
@@ -67,7 +80,12 @@ def main(vectors, stdin, stdout):
     for op, *args, answer in rows:
         if op in LATER:
             left["of a later request (%s)" % op] += 1
-        elif op == "make" and any(x > 65535 for x in numbers(args[2], 10)):
+            continue
+        if replaced(op, args, answer):
+            left["replaced by a request (%s)" % op] += 1
+            continue
+        op = NOW.get(op, op)
+        if op == "make" and any(x > 65535 for x in numbers(args[2], 10)):
             left["with a terminal over 65,535 in a made list"] += 1
         else:
             out.append(((set_case if of_sets else string_case)(op, args), answer))

@@ -94,10 +94,11 @@ impl Terminals {
     pub fn end(m: u64) -> Result<Self, Refusal> {
         string(|o, n| unsafe { raw::jomankitu_end(m, o, n) })
     }
-    /// The first k of a list.
+    /// The first k of a list; refused 21 where 0 stands before the last of them.
     pub fn make(list: &[u16], k: u64, m: u64) -> Result<Self, Refusal> {
         string(|o, n| unsafe { raw::jomankitu_make(list.as_ptr(), list.len(), k, m, o, n) })
     }
+    /// One slot more; refused 21 once the string has ended.
     pub fn push(self, x: u64) -> Result<Self, Refusal> {
         string(|o, n| unsafe { raw::jomankitu_push(self.0, self.1, x, o, n) })
     }

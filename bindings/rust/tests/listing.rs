@@ -39,6 +39,9 @@ fn strings_and_sets() {
     let five = Terminals::make(&[5], 10, 7).unwrap();
     assert_eq!(five.k_concat(Terminals::make(&[6, 7, 8], 10, 8).unwrap(), 3).unwrap().unpack(), Ok(vec![5, 6, 7]));
     assert_eq!(Terminals::eps(7).unwrap().push(5), Err(17));
+    assert_eq!(Terminals::end(7).unwrap().push(6), Err(21));
+    assert_eq!(Terminals::make(&[5, 0, 6], 3, 7), Err(21));
+    assert_eq!(Terminals::make(&[5, 0, 6], 2, 7).unwrap().unpack(), Ok(vec![5, 0]));
     assert_eq!(five.order(Terminals::eps(7).unwrap()), Ok(std::cmp::Ordering::Less));
     let (a, b) = ([1, five.0, five.1], [0u64; 3]);
     let mut out = [9u64; 3];

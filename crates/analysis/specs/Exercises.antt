@@ -72,8 +72,8 @@ exercises =
     ∷ record { asked = joined 3 (one 5) (slots (6 ∷ 7 ∷ 8 ∷ [])); answer = paper (string (four (slots (5 ∷ 6 ∷ 7 ∷ [])))) }
     ∷ record { asked = joined 1 eps (one 0); answer = paper (string (four (one 0))) }
     ∷ record { asked = joined 0 eps (one 5); answer = paper (string (four (slots []))) }
-    -- h: a push after an end marker changes nothing
-    ∷ record { asked = paper (pushAnswer 6 (reads (four (two 5 0)))); answer = paper (string (four (two 5 0))) }
+    -- h: a push after an end marker is refused
+    ∷ record { asked = paper (pushAnswer 6 (reads (four (two 5 0)))); answer = paper (no 21 (0 ∷ 0 ∷ [])) }
     -- i: [0], [5], ε, [6 5], [5 6] rise
     ∷ record { asked = ordered (one 0) (one 5); answer = less }
     ∷ record { asked = ordered (one 5) eps; answer = less }

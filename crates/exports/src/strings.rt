@@ -154,7 +154,7 @@ pub extern "C" fn jomankitu_end(m: u64, out: &mut [u64]) -> u64
     tell_string(out, a)
 }
 
-// The first k of a list, for the greatest terminal m, in two words.
+// The first k of a list, for the greatest terminal m, in two words. An end marker may only be the last of them.
 #[no_mangle]
 pub extern "C" fn jomankitu_make(ts: &[u16], k: u64, m: u64, out: &mut [u64]) -> u64
     ensures { λ r. ⌜ Told 2 (makeAnswer k m (now (ts .entry))) (now (out .entry)) r (now (out .exit)) ⌝ }
@@ -163,7 +163,7 @@ pub extern "C" fn jomankitu_make(ts: &[u16], k: u64, m: u64, out: &mut [u64]) ->
     tell_string(out, a)
 }
 
-// A string with one slot more, in two words.
+// A string with one slot more, in two words. Nothing goes behind an end marker.
 #[no_mangle]
 pub extern "C" fn jomankitu_push(lo: u64, hi: u64, x: u64, out: &mut [u64]) -> u64
     ensures { λ r. ⌜ Told 2 (pushAnswer x (reads (pair lo hi))) (now (out .entry)) r (now (out .exit)) ⌝ }

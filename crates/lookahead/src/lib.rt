@@ -4,8 +4,8 @@
 // ---- packed strings: `Terminals`, two words by value, with its methods
 //   Terminals::eps(m)              ε, for the greatest terminal m
 //   Terminals::end(m)              the end marker alone
-//   Terminals::make(list, k, m)    the first k of a list, up to and with its first 0
-//   t.push(x)                      one slot more, unless the string has ended
+//   Terminals::make(list, k, m)    the first k of a list; 0 may only be the last of them
+//   t.push(x)                      one slot more; refused 21 once the string has ended
 //   t.cut(k)                       the first k slots
 //   t.k_concat(u, k)               t and then as much of u as k leaves room for
 //   t.is_k_complete(k)             whether k terminals are there, or the end marker
