@@ -62,7 +62,7 @@ uint64_t jomankitu_intersection(uint64_t k, const uint64_t *a, size_t a_len, con
 /* Whether the sets a and b have no member in common. out gets 1 word: 1 or 0. */
 uint64_t jomankitu_disjoint(uint64_t k, const uint64_t *a, size_t a_len, const uint64_t *b, size_t b_len, uint64_t *out, size_t out_len);
 
-/* Whether every member of the set a is complete at k. out gets 1 word: 1 or 0. */
+/* Whether the set a has a member and every member is complete at k. out gets 1 word: 1 or 0. */
 uint64_t jomankitu_all_complete(uint64_t k, const uint64_t *a, size_t a_len, uint64_t *out, size_t out_len);
 
 /* The join of the sets a and b at k, in the words of out. */

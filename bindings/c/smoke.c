@@ -66,7 +66,7 @@ static int strings(void) {
     return jomankitu_push(15, ONE, 5, out, 2) != 17 || jomankitu_unpack(1, 0, out, 11) != 13 ? 30 : 0;
 }
 static int of_sets(void) {
-    static const uint64_t a[] = {1, 5, ONE}, b[] = {2, 5, ONE, 6, ONE}, joined[] = {2, 85, TWO, 101, TWO, 0, 0};
+    static const uint64_t a[] = {1, 5, ONE}, b[] = {2, 5, ONE, 6, ONE}, joined[] = {2, 85, TWO, 101, TWO, 0, 0}, none[] = {0};
     uint64_t told[1];
     if (jomankitu_union(2, a, LENGTH(a), b, LENGTH(b), out, 7, told, 1) || told[0] != 1 || !same(out, b, 5) || out[5]) return 40;
     if (jomankitu_union(2, b, LENGTH(b), a, LENGTH(a), out, 7, told, 1) || told[0]) return 41;
@@ -77,6 +77,7 @@ static int of_sets(void) {
     if (jomankitu_intersection(2, a, LENGTH(a), b, LENGTH(b), out, 7) || !same(out, a, 3) || out[3]) return 43;
     if (jomankitu_disjoint(2, a, LENGTH(a), b, LENGTH(b), told, 1) || told[0]) return 44;
     if (jomankitu_all_complete(1, b, LENGTH(b), told, 1) || told[0] != 1 || jomankitu_all_complete(2, b, LENGTH(b), told, 1) || told[0]) return 45;
+    if (jomankitu_all_complete(1, none, LENGTH(none), told, 1) || told[0]) return 47;
     return jomankitu_join_sets(2, a, LENGTH(a), b, LENGTH(b), out, 7) || !same(out, joined, 7) ? 46 : 0;
 }
 int main(void) {

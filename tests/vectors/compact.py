@@ -9,15 +9,14 @@ VECTORS has a row a line: operation | arguments | answer, its first line names t
   sets      union, intersection, join: K ROOM | first | second;  disjoint: K | first | second;  complete: K | set
 
 STDOUT gets the row's answer as it stands. Nothing here works an answer out: the width of a case `width M` is read off the answer to `eps M` or `end M`.
-Rows are left out that speak of a later request or that a request has replaced, and lists with a number that a terminal's type cannot hold; how many is
+Rows are left out that a request has replaced, and lists with a number that a terminal's type cannot hold; how many is
 printed.
 """
 import sys
 from collections import Counter
 
-LATER = {"complete_k5"}
 # rows of a request, by the operation that they are now the rule of
-NOW = {"make_k2": "make", "push_k2": "push"}
+NOW = {"make_k2": "make", "push_k2": "push", "complete_k5": "complete"}
 
 
 def cells(row):
@@ -53,9 +52,11 @@ def set_case(op, args):
     return line(op, *head, *sets)
 
 
-def replaced(op, args, answer):
-    """Whether a row tells, as the rule once was, that terminals behind an end marker are passed over in silence: a string made with fewer slots than the
-    first k of its list, a push that gives the string itself. The rows of request K2 stand for such."""
+def replaced(op, args, answer, of_sets):
+    """Whether a row tells what the rule once was: that terminals behind an end marker are passed over in silence (a string made with fewer slots than the
+    first k of its list, a push that gives the string itself), or that a set whose count is 0 is complete. The rows of requests K2 and K5 stand for such."""
+    if of_sets:
+        return op == "complete" and answer == "true" and numbers(args[1], 16)[0] == 0
     if op not in ("make", "push") or answer.startswith("refused"):
         return False
     if op == "push":
@@ -78,10 +79,7 @@ def main(vectors, stdin, stdout):
     of_sets = header[1] == "k"
     out, left = [], Counter()
     for op, *args, answer in rows:
-        if op in LATER:
-            left["of a later request (%s)" % op] += 1
-            continue
-        if replaced(op, args, answer):
+        if replaced(op, args, answer, of_sets):
             left["replaced by a request (%s)" % op] += 1
             continue
         op = NOW.get(op, op)

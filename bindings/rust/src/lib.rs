@@ -139,6 +139,7 @@ pub fn is_disjoint(k: u64, a: &[u64], b: &[u64]) -> Result<bool, Refusal> {
     words::<1>(|o, n| unsafe { raw::jomankitu_disjoint(k, a.as_ptr(), a.len(), b.as_ptr(), b.len(), o, n) }).map(|w| w[0] == 1)
 }
 
+/// Whether a set has a member and every member is complete at k.
 pub fn is_k_complete(k: u64, a: &[u64]) -> Result<bool, Refusal> {
     words::<1>(|o, n| unsafe { raw::jomankitu_all_complete(k, a.as_ptr(), a.len(), o, n) }).map(|w| w[0] == 1)
 }

@@ -48,6 +48,7 @@ fn strings_and_sets() {
     assert_eq!(union(1, &a, &b, &mut out), Ok(false));
     assert_eq!(out, a);
     assert_eq!(is_disjoint(1, &a, &a), Ok(false));
+    assert_eq!((is_k_complete(1, &a), is_k_complete(1, &b)), (Ok(true), Ok(false)), "a set without members is not complete");
     assert_eq!(union(0, &a, &b, &mut out), Err(1));
     assert_eq!(union(1, &[], &b, &mut out), Err(10));
     assert_eq!(Terminals::make(&[], 10, 7).unwrap().unpack(), Ok(vec![]));

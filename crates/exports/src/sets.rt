@@ -98,7 +98,7 @@ pub extern "C" fn jomankitu_disjoint(k: u64, a: &[u64], b: &[u64], out: &mut [u6
     tell_one(out, said_test(t))
 }
 
-// Whether every member of a set is complete at k, in one word: 1 or 0.
+// Whether a set has a member and every member is complete at k, in one word: 1 or 0.
 #[no_mangle]
 pub extern "C" fn jomankitu_all_complete(k: u64, a: &[u64], out: &mut [u64]) -> u64
     ensures { λ r. ⌜ Told 1 (completeAnswer k (now (a .entry))) (now (out .entry)) r (now (out .exit)) ⌝ }

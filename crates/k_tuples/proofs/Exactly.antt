@@ -9,7 +9,7 @@ use lib.Dec.{ltb}
 use lib.ListN.{length}
 use Rattle.k_tuple.specs.Paper.{flag, Tests, zeros, outcome, Column, values, _for_else_, Exactly}
 use Rattle.k_tuple.proofs.Column.{Means, ltb-means, eqb-means, not-means, or-means, Says, answered, test, exactly}
-use Rattle.k_tuples.specs.Sets.{disjoint, allComplete}
+use Rattle.k_tuples.specs.Sets.{disjoint, completeSet}
 use Rattle.k_tuples.specs.Words.{roomOf}
 use Rattle.k_tuples.specs.Held.{DecodedSet, bad, good, setIn}
 use Rattle.k_tuples.specs.Answers.{isBad, widthIn, membersIn, suits, outside, noWords, twoSets, unionSet, unionAnswer, commonSet, intersectAnswer, joinSet, joinAnswer, disjointAnswer, completeAnswer}
@@ -89,6 +89,6 @@ pub complete-exactly : (k : ℕ) (a : List ℕ) → Exactly (completeAnswer k a)
     1 for Outside k else
     10 for NoWords a else
     13 for setIn k a ≡ bad else
-    values (flag (allComplete k (membersIn (setIn k a)))))
+    values (flag (completeSet k (membersIn (setIn k a)))))
 unfolding completeAnswer
 complete-exactly k a = exactly refl (test _ (outside-means k) (test _ (eqb-means _ 0) (test _ (bad-means (setIn k a)) (answered refl))))

@@ -28,7 +28,7 @@ pub use k_tuples::UnionAnswer;
 pub use k_tuples::intersection;
 // Whether two sets have no member in common.
 pub use k_tuples::is_disjoint;
-// Whether every member is complete at k.
+// Whether a set has a member and every member is complete at k.
 pub use k_tuples::is_k_complete;
 // The complete members of the first set, and each other member joined with each of the second.
 pub use k_tuples::k_concat;
