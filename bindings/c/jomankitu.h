@@ -22,6 +22,18 @@ uint64_t jomankitu_lookahead_sets(uint64_t k, uint64_t c, const uint8_t *table, 
    result needs. Kinds: 0 FIRST of nonterminals, 1 FIRST of productions, 2 FOLLOW of nonterminals, 3 positions. out gets 2 words. */
 uint64_t jomankitu_set_of(size_t len, size_t kind, size_t number, size_t n, size_t p, size_t q, size_t c, uint64_t *out, size_t out_len);
 
+/* The table of a text of rules in ABNF (RFC 5234: names, concatenation, "/", quoted literals, "[ ]", comments; lines end in CRLF), in the first
+   bytes of table; the other bytes stay as they came. answer gets 2 words: how many bytes are written, and the place of a refusal in the text, from 0;
+   on a refusal (18, 19, 20, or 10 if the bytes are too few) the first is 0, else the second. With fewer than 2 words the number is that of no bytes. */
+uint64_t jomankitu_read_abnf(const uint8_t *text, size_t text_len, uint8_t *table, size_t table_len, uint64_t *answer, size_t answer_len);
+
+/* Where in a text of rules the name of a nonterminal begins, or the "[" of its group, and how many bytes it has; 0 and 0 if there is no such
+   number, or the text is refused by 18 or 20. out gets 2 words. */
+uint64_t jomankitu_nonterminal_part(const uint8_t *text, size_t text_len, uint64_t number, uint64_t *out, size_t out_len);
+
+/* The same for the literal of a terminal, without its quotes. */
+uint64_t jomankitu_terminal_part(const uint8_t *text, size_t text_len, uint64_t number, uint64_t *out, size_t out_len);
+
 /* The width of strings whose greatest terminal is m. out gets 1 word. */
 uint64_t jomankitu_width(uint64_t m, uint64_t *out, size_t out_len);
 

@@ -1,4 +1,4 @@
-/* Calls every function of jomankitu.h and checks what it leaves: the listing of the rules, and some of its exercises. The exit status is 0 if all is
+/* Calls every function of jomankitu.h and checks what it leaves: the listing of the rules, some of its exercises, and a text of rules in ABNF. The exit status is 0 if all is
    right, else the number of the first check that is not. */
 #include "jomankitu.h"
 
@@ -80,8 +80,30 @@ static int of_sets(void) {
     if (jomankitu_all_complete(1, none, LENGTH(none), told, 1) || told[0]) return 47;
     return jomankitu_join_sets(2, a, LENGTH(a), b, LENGTH(b), out, 7) || !same(out, joined, 7) ? 46 : 0;
 }
+static int is_part(uint64_t (*part)(const uint8_t *, size_t, uint64_t, uint64_t *, size_t), const char *text, size_t size, uint64_t number,
+                   uint64_t start, uint64_t length) {
+    return !part((const uint8_t *)text, size, number, out, 2) && out[0] == start && out[1] == length;
+}
+static int rules(void) {
+    static const char text[] = "S = \"id\" [v]\r\nV = \"version\"\r\n", used[] = "s = v\r\n", bad[] = "s = 1*v\r\n";
+    static const uint8_t wanted[] = {3, 2, 0, 4, 0, 2, 11, 4, 2, 1, 2, 2, 0, 1, 1, 13};
+    uint8_t bytes[20] = {0};
+    const uint8_t *t = (const uint8_t *)text;
+    size_t size = sizeof text - 1;
+    bytes[16] = 7;
+    if (jomankitu_read_abnf(t, size, bytes, 20, answer, 2) || answer[0] != 16 || answer[1]) return 60;
+    for (size_t i = 0; i < 16; i++) if (bytes[i] != wanted[i]) return 61;
+    if (bytes[16] != 7 || jomankitu_read_abnf(t, size, bytes, 15, answer, 2) != 10 || answer[0] || answer[1]) return 62;
+    if (jomankitu_read_abnf((const uint8_t *)used, sizeof used - 1, bytes, 20, answer, 2) != 19 || answer[0] || answer[1] != 4) return 63;
+    if (jomankitu_read_abnf((const uint8_t *)bad, sizeof bad - 1, bytes, 20, answer, 2) != 18 || answer[1] != 4) return 64;
+    if (jomankitu_read_abnf(t, size, bytes, 20, answer, 1) != 10 || jomankitu_read_abnf((const uint8_t *)bad, sizeof bad - 1, bytes, 20, answer, 0) != 18) return 65;
+    if (!is_part(jomankitu_nonterminal_part, text, size, 0, 0, 1) || !is_part(jomankitu_nonterminal_part, text, size, 1, 10, 1)) return 66;
+    if (!is_part(jomankitu_nonterminal_part, text, size, 2, 9, 1) || !is_part(jomankitu_nonterminal_part, text, size, 65536, 0, 0)) return 67;
+    return !is_part(jomankitu_terminal_part, text, size, 6, 19, 7) || jomankitu_terminal_part(t, size, 6, out, 1) != 10 ? 68 : 0;
+}
 int main(void) {
     int wrong = listing();
     if (!wrong) wrong = strings();
-    return wrong ? wrong : of_sets();
+    if (!wrong) wrong = of_sets();
+    return wrong ? wrong : rules();
 }

@@ -5,6 +5,9 @@ mod raw {
     unsafe extern "C" {
         pub fn jomankitu_lookahead_sets(k: u64, c: u64, table: *const u8, table_len: usize, result: *mut u64, result_len: usize, scratch: *mut u64, scratch_len: usize, answer: *mut u64, answer_len: usize) -> u64;
         pub fn jomankitu_set_of(len: usize, kind: usize, number: usize, n: usize, p: usize, q: usize, c: usize, out: *mut u64, out_len: usize) -> u64;
+        pub fn jomankitu_read_abnf(text: *const u8, text_len: usize, table: *mut u8, table_len: usize, answer: *mut u64, answer_len: usize) -> u64;
+        pub fn jomankitu_nonterminal_part(text: *const u8, text_len: usize, number: u64, out: *mut u64, out_len: usize) -> u64;
+        pub fn jomankitu_terminal_part(text: *const u8, text_len: usize, number: u64, out: *mut u64, out_len: usize) -> u64;
         pub fn jomankitu_width(m: u64, out: *mut u64, out_len: usize) -> u64;
         pub fn jomankitu_eps(m: u64, out: *mut u64, out_len: usize) -> u64;
         pub fn jomankitu_end(m: u64, out: *mut u64, out_len: usize) -> u64;
@@ -65,6 +68,37 @@ pub fn set_of<'a>(words: &'a [u64], kind: Kind, number: usize, a: &Lookahead, c:
     let mut part = [0u64; 2];
     unsafe { raw::jomankitu_set_of(words.len(), kind as usize, number, a.n as usize, a.p as usize, a.q as usize, c, part.as_mut_ptr(), part.len()) };
     words.get(part[0] as usize..(part[0] + part[1]) as usize).unwrap_or(&[])
+}
+
+/// Why a text of rules has no table: the number of the refusal, and its place in the text (0 for 10).
+#[derive(Clone, Copy, Debug, PartialEq, Eq)]
+pub struct Refused {
+    pub number: Refusal,
+    pub place: usize,
+}
+
+/// The table of a text of rules in ABNF, in the first bytes of `table`; how many they are.
+pub fn read_abnf(text: &[u8], table: &mut [u8]) -> Result<usize, Refused> {
+    let mut a = [0u64; 2];
+    let number = unsafe { raw::jomankitu_read_abnf(text.as_ptr(), text.len(), table.as_mut_ptr(), table.len(), a.as_mut_ptr(), a.len()) };
+    if number == 0 { Ok(a[0] as usize) } else { Err(Refused { number, place: a[1] as usize }) }
+}
+
+/// The bytes of a text at a place and so many; none where they are not all there.
+fn part(text: &[u8], call: impl FnOnce(*mut u64, usize) -> u64) -> &[u8] {
+    let mut p = [0u64; 2];
+    call(p.as_mut_ptr(), p.len());
+    text.get(p[0] as usize..(p[0] + p[1]) as usize).unwrap_or(&[])
+}
+
+/// The part of a text of rules that names a nonterminal: its name, or "[" of its group; empty where there is no such number.
+pub fn nonterminal_part(text: &[u8], number: u64) -> &[u8] {
+    part(text, |o, n| unsafe { raw::jomankitu_nonterminal_part(text.as_ptr(), text.len(), number, o, n) })
+}
+
+/// The part of a text of rules that names a terminal: its literal without quotes; empty where there is no such number.
+pub fn terminal_part(text: &[u8], number: u64) -> &[u8] {
+    part(text, |o, n| unsafe { raw::jomankitu_terminal_part(text.as_ptr(), text.len(), number, o, n) })
 }
 
 /// A packed string: two words, the low one first.

@@ -2,3 +2,4 @@ pub mod Telling
 pub mod Making
 pub mod Calling
 pub mod One
+pub mod RulesTold

@@ -1,3 +1,4 @@
 pub mod Told
 pub mod Call
 pub mod Pairs
+pub mod Rules

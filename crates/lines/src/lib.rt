@@ -3,7 +3,6 @@ ghost use Rattle.lines.specs.Waits.{Waits};
 use crate::positions::put_positions;
 use crate::sets::Sizes;
 use crate::sets::put_set;
-use crate::text::put_number;
 use cfg::table::Answer;
 use cfg::table::read_number;
 use lookahead::Lookahead;
@@ -15,6 +14,7 @@ mod text;
 
 pub use text::flush;
 pub use text::put;
+pub use text::put_number;
 pub use text::put_text;
 
 fn index(x: u64) -> usize {

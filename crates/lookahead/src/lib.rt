@@ -35,6 +35,18 @@ pub use k_tuples::k_concat;
 // The members of both sets, and whether that is more than the first has.
 pub use k_tuples::union;
 
+// ---- a register's rules: a text in ABNF becomes a table, and the table's numbers lead back to the text
+// How many bytes the table takes, or a refusal and its place in the text.
+pub use abnf::grammar::TableAnswer;
+// The table of a text's rules, in lent bytes.
+pub use abnf::grammar::read_abnf;
+// The bytes of a text from a start up to an end.
+pub use abnf_names::TextPart;
+// The part of a text that names a nonterminal: its name, or "[" of its group.
+pub use abnf_names::nonterminal_part;
+// The part of a text that names a terminal: its literal without quotes.
+pub use abnf_names::terminal_part;
+
 // ---- FIRST and FOLLOW of a table
 // What the call answers: a refusal or 0, the sizes, the width, and the rounds.
 pub use engine::Lookahead;

@@ -1,0 +1,4 @@
+pub mod Numbering
+pub mod Abnf
+pub mod Exercises
+pub mod Writes

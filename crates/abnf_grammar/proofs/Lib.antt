@@ -1,0 +1,15 @@
+pub mod Pieces
+pub mod Numbered
+pub mod Notes
+pub mod Kept
+pub mod Told
+pub mod Leads
+pub mod Complete
+pub mod Whole
+pub mod Sound
+pub mod Theorems
+pub mod Blocks
+pub mod Productions
+pub mod Undefined
+pub mod Meanings
+pub mod Exercises

@@ -1,0 +1,3 @@
+pub mod Subset
+pub mod Meaning
+pub mod Parsed
