@@ -18,6 +18,13 @@ extern "C" {
 uint64_t jomankitu_lookahead_sets(uint64_t k, uint64_t c, const uint8_t *table, size_t table_len, uint64_t *result, size_t result_len,
                                   uint64_t *scratch, size_t scratch_len, uint64_t *answer, size_t answer_len);
 
+/* The smallest k from 1 to limit (1 to 10) that each nonterminal of a table needs, with room for c members in each set; 0 for a nonterminal with one
+   production. result and scratch as above; both are worked in, and what is needed of them ends zero. answer gets 258 words: refusal, n, the refusal of
+   each of 128 nonterminals (0, 11 or 22), the k of each of 128. If those are too few, it returns the refusal of this call with result and scratch of no
+   words (1 to 9, else 10) and writes nothing at all. */
+uint64_t jomankitu_needed_k(uint64_t limit, uint64_t c, const uint8_t *table, size_t table_len, uint64_t *result, size_t result_len,
+                            uint64_t *scratch, size_t scratch_len, uint64_t *answer, size_t answer_len);
+
 /* Where in a result of len words a set begins, and how many words it has; 0 and 0 if there is no such set, or len is less than the whole
    result needs. Kinds: 0 FIRST of nonterminals, 1 FIRST of productions, 2 FOLLOW of nonterminals, 3 positions. out gets 2 words. */
 uint64_t jomankitu_set_of(size_t len, size_t kind, size_t number, size_t n, size_t p, size_t q, size_t c, uint64_t *out, size_t out_len);

@@ -80,6 +80,19 @@ static int of_sets(void) {
     if (jomankitu_all_complete(1, none, LENGTH(none), told, 1) || told[0]) return 47;
     return jomankitu_join_sets(2, a, LENGTH(a), b, LENGTH(b), out, 7) || !same(out, joined, 7) ? 46 : 0;
 }
+/* S -> 5 5 | 5 6 needs 2; of the listing's grammar S needs 0 and V needs 1 */
+static int needed(void) {
+    static const uint8_t two[] = {1, 2, 0, 2, 0, 2, 11, 11, 0, 2, 11, 13};
+    static uint64_t told[258];
+    if (jomankitu_needed_k(2, C, two, sizeof two, result, WORDS, scratch, WORDS, told, 258) || told[0] || told[1] != 1 || told[2] || told[130] != 2) return 50;
+    if (jomankitu_needed_k(1, C, two, sizeof two, result, WORDS, scratch, WORDS, told, 258) || told[2] != 22 || told[130]) return 51;
+    for (size_t i = 0; i < 258; i++) if (i != 1 && i != 2 && told[i]) return 52;
+    if (jomankitu_needed_k(2, C, table, sizeof table, result, WORDS, scratch, WORDS, told, 258) || told[1] != 2 || told[130] || told[131] != 1) return 53;
+    if (jomankitu_needed_k(11, C, two, sizeof two, result, WORDS, scratch, WORDS, told, 258) != 1 || told[0] != 1 || told[1]) return 54;
+    result[0] = 7;
+    if (jomankitu_needed_k(2, C, two, sizeof two, result, WORDS, scratch, WORDS, told, 257) != 10 || result[0] != 7 || told[0] != 1) return 55;
+    return jomankitu_needed_k(2, C, two, sizeof two - 1, result, WORDS, scratch, WORDS, told, 0) != 3 ? 56 : 0;
+}
 static int is_part(uint64_t (*part)(const uint8_t *, size_t, uint64_t, uint64_t *, size_t), const char *text, size_t size, uint64_t number,
                    uint64_t start, uint64_t length) {
     return !part((const uint8_t *)text, size, number, out, 2) && out[0] == start && out[1] == length;
@@ -104,6 +117,7 @@ static int rules(void) {
 int main(void) {
     int wrong = listing();
     if (!wrong) wrong = strings();
+    if (!wrong) wrong = needed();
     if (!wrong) wrong = of_sets();
     return wrong ? wrong : rules();
 }

@@ -7,6 +7,7 @@ VECTORS has a row a line: operation | arguments | answer, its first line names t
 
   strings   width M, eps M, end M, make K M TERMINAL.., unpack LO HI, complete K LO HI, cut K LO HI, push LO HI X, order LO HI LO HI, join K LO HI LO HI
   sets      union, intersection, join: K ROOM | first | second;  disjoint: K | first | second;  complete: K | set
+  needed    LIMIT C | the table's bytes, for rows limit | c | table | answer
 
 STDOUT gets the row's answer as it stands. Nothing here works an answer out: the width of a case `width M` is read off the answer to `eps M` or `end M`.
 Rows are left out that a request has replaced, and lists with a number that a terminal's type cannot hold; how many is
@@ -76,9 +77,14 @@ def width_cases(rows):
 def main(vectors, stdin, stdout):
     with open(vectors, encoding="ascii") as f:
         header, *rows = [cells(row) for row in f if row.strip()]
-    of_sets = header[1] == "k"
+    of_sets, of_needs = header[1] == "k", header[0] == "limit"
+    if of_needs:
+        rows = [["needed", *row] for row in rows]
     out, left = [], Counter()
     for op, *args, answer in rows:
+        if of_needs:
+            out.append((line(op, int(args[0]), int(args[1]), "|", *bytes.fromhex(args[2])), answer))
+            continue
         if replaced(op, args, answer, of_sets):
             left["replaced by a request (%s)" % op] += 1
             continue
@@ -87,7 +93,7 @@ def main(vectors, stdin, stdout):
             left["with a terminal over 65,535 in a made list"] += 1
         else:
             out.append(((set_case if of_sets else string_case)(op, args), answer))
-    widths = [] if of_sets else width_cases(rows)
+    widths = [] if of_sets or of_needs else width_cases(rows)
     with open(stdin, "w", encoding="ascii") as f:
         f.writelines(case + "\n" for case, _ in out + widths)
     with open(stdout, "w", encoding="ascii") as f:

@@ -4,6 +4,7 @@
 mod raw {
     unsafe extern "C" {
         pub fn jomankitu_lookahead_sets(k: u64, c: u64, table: *const u8, table_len: usize, result: *mut u64, result_len: usize, scratch: *mut u64, scratch_len: usize, answer: *mut u64, answer_len: usize) -> u64;
+        pub fn jomankitu_needed_k(limit: u64, c: u64, table: *const u8, table_len: usize, result: *mut u64, result_len: usize, scratch: *mut u64, scratch_len: usize, answer: *mut u64, answer_len: usize) -> u64;
         pub fn jomankitu_set_of(len: usize, kind: usize, number: usize, n: usize, p: usize, q: usize, c: usize, out: *mut u64, out_len: usize) -> u64;
         pub fn jomankitu_read_abnf(text: *const u8, text_len: usize, table: *mut u8, table_len: usize, answer: *mut u64, answer_len: usize) -> u64;
         pub fn jomankitu_nonterminal_part(text: *const u8, text_len: usize, number: u64, out: *mut u64, out_len: usize) -> u64;
@@ -52,6 +53,14 @@ pub fn lookahead_sets(k: u64, c: u64, table: &[u8], result: &mut [u64], scratch:
     let mut rounds = [0; 10];
     rounds.copy_from_slice(&a[5..15]);
     answer(number, Lookahead { n: a[1], p: a[2], q: a[3], width: a[4], rounds, follow: a[15] })
+}
+
+/// The smallest k from 1 to limit that each nonterminal needs (0 for one production), or its refusal (11 or 22), with room for c members in each set.
+/// Both buffers are worked in.
+pub fn needed_k(limit: u64, c: u64, table: &[u8], result: &mut [u64], scratch: &mut [u64]) -> Result<Vec<Result<u64, Refusal>>, Refusal> {
+    let mut a = [0u64; 258];
+    let number = unsafe { raw::jomankitu_needed_k(limit, c, table.as_ptr(), table.len(), result.as_mut_ptr(), result.len(), scratch.as_mut_ptr(), scratch.len(), a.as_mut_ptr(), a.len()) };
+    answer(number, (0..a[1] as usize).map(|i| answer(a[2 + i], a[130 + i])).collect())
 }
 
 /// The kinds of sets, in the result's order.

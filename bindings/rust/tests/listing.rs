@@ -32,6 +32,16 @@ fn refusals_leave_the_words() {
 }
 
 #[test]
+fn which_k() {
+    const TWO: [u8; 12] = [1, 2, 0, 2, 0, 2, 0x0B, 0x0B, 0, 2, 0x0B, 0x0D];
+    let (mut result, mut scratch) = (vec![7u64; 4096], vec![7u64; 4096]);
+    assert_eq!(needed_k(2, 8, &TWO, &mut result, &mut scratch), Ok(vec![Ok(2)]));
+    assert_eq!(needed_k(1, 8, &TWO, &mut result, &mut scratch), Ok(vec![Err(22)]));
+    assert_eq!(needed_k(3, 8, &TABLE, &mut result, &mut scratch), Ok(vec![Ok(0), Ok(1)]));
+    assert_eq!(needed_k(11, 8, &TWO, &mut result, &mut scratch), Err(1));
+}
+
+#[test]
 fn strings_and_sets() {
     assert_eq!(width(4094), Ok(12));
     assert_eq!(width(4095), Err(14));

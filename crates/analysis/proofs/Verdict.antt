@@ -88,12 +88,21 @@ answers-all k c table result scratch bytes = on-k (leb 1 k && leb k 10) refl
 
 -- ---- and only one
 
-le-both : (a b c d : ℕ) → (a ≤ b) × (c ≤ d) → (leb a b && leb c d) ≡ true
+pub le-both : (a b c d : ℕ) → (a ≤ b) × (c ≤ d) → (leb a b && leb c d) ≡ true
 le-both a b c d h = holds (leb a b && leb c d) (and-both (leb a b) (leb c d) (le→leb a b (h .0)) (le→leb c d (h .1)))
 
 not-le-both : (a b c d : ℕ) → ¬ ((a ≤ b) × (c ≤ d)) → (leb a b && leb c d) ≡ false
 not-le-both a b c d h =
     unpassed (leb a b && leb c d) (λ t. h (leb→le a b (and-left (leb a b) (leb c d) t), leb→le c d (and-right (leb a b) (leb c d) t)))
+
+-- an accepted grammar passes the tests of a table that is read
+pub accepted-passes : {g : Grammar} (t : TableRead g) → Accepted g → testRefusal (g .productions) (g .n) ≡ 0
+accepted-passes {g} t ok = by (testRefusal (g .productions) (g .n)) (tested g (t .numbered))
+  where
+    by : (r : ℕ) → Tested g (t .numbered) r → r ≡ 0
+    by r (unproductive-eight a l u) = absurd (u (ok .productive a l))
+    by r (left-recursive-nine _ l) = absurd (ok .not-left-recursive l)
+    by r (passed-none _ _) = refl
 
 -- the tests' answer, from what they test
 module _ (table : List ℕ) (g : Grammar) (is : IsTableOf g table) where
@@ -124,12 +133,7 @@ module _ (table : List ℕ) (g : Grammar) (is : IsTableOf g table) where
       by r (passed-none _ n) = absurd (n l)
 
   is-none : Accepted g → Answer-is 0
-  is-none ok = by (testRefusal (g .productions) (g .n)) (tested g (t .numbered))
-    where
-      by : (r : ℕ) → Tested g (t .numbered) r → r ≡ 0
-      by r (unproductive-eight a l u) = absurd (u (ok .productive a l))
-      by r (left-recursive-nine _ l) = absurd (ok .not-left-recursive l)
-      by r (passed-none _ _) = refl
+  is-none = accepted-passes t
 
 pub one-answer : OneAnswer
 unfolding analyse acceptTable

@@ -3,3 +3,4 @@ pub mod Making
 pub mod Calling
 pub mod One
 pub mod RulesTold
+pub mod Needing

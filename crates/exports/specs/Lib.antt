@@ -2,3 +2,4 @@ pub mod Told
 pub mod Call
 pub mod Pairs
 pub mod Rules
+pub mod Needed

@@ -8,10 +8,12 @@ use cfg::table::read_number;
 use lookahead::Lookahead;
 use lookahead::lookahead_sets;
 
+mod needed;
 mod positions;
 mod sets;
 mod text;
 
+pub use needed::put_needed;
 pub use text::flush;
 pub use text::put;
 pub use text::put_number;
@@ -150,18 +152,49 @@ fn refusal(answer: Answer) -> u64 {
     }
 }
 
-// The listing of one input: k and c as seven-bit numbers, both read before either is tested, and the table.
+// The two numbers before a table, both read before either is tested, and where it begins; or the refusal of one that cannot be read.
+struct Before {
+    refusal: u64,
+    first: u64,
+    second: u64,
+    next: usize,
+}
+
+fn unread(number: u64) -> Before {
+    Before {
+        refusal: number,
+        first: 0,
+        second: 0,
+        next: 0,
+    }
+}
+
+fn read_before(input: &[u8]) -> Before {
+    let first = read_number(input, 0);
+    let Answer::Got { value: one, next } = first else {
+        return unread(refusal(first));
+    };
+    let second = read_number(input, next);
+    let Answer::Got { value: two, next } = second else {
+        return unread(refusal(second));
+    };
+    Before {
+        refusal: 0,
+        first: wide(one),
+        second: wide(two),
+        next,
+    }
+}
+
+// The listing of one input: k and c as seven-bit numbers, and the table.
 pub fn put_listing(out: &mut [u8], at: usize, input: &[u8]) -> usize
     requires { ⌜ Waits at (now out) ⌝ }
     ensures { λ r. ⌜ Waits r (now (out .exit)) ⌝ }
 {
-    let first = read_number(input, 0);
-    let Answer::Got { value: k, next } = first else {
-        return put_refused(out, at, refusal(first));
-    };
-    let second = read_number(input, next);
-    let Answer::Got { value: c, next } = second else {
-        return put_refused(out, at, refusal(second));
-    };
-    put_table(out, at, wide(k), wide(c), rest(input, next))
+    let h = read_before(input);
+    if h.refusal != 0 {
+        return put_refused(out, at, h.refusal);
+    }
+    let next = h.next;
+    put_table(out, at, h.first, h.second, rest(input, next))
 }

@@ -54,3 +54,9 @@ pub use engine::Lookahead;
 pub use engine::ask::set_of;
 // FIRST and FOLLOW of a table at k, with room for c members a set, in two lent slices of words.
 pub use engine::lookahead_sets;
+
+// ---- which k a table needs
+// What the call answers: a refusal or 0, how many nonterminals, and for each its refusal and its k.
+pub use decision::Needed;
+// The smallest k up to a limit at which the productions of each nonterminal can be told apart, in the same two slices of words.
+pub use decision::needed_k;

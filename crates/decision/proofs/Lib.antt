@@ -1,0 +1,10 @@
+pub mod Marks
+pub mod Padded
+pub mod Apart
+pub mod Joining
+pub mod Sides
+pub mod Sizing
+pub mod Trying
+pub mod Answering
+pub mod Finishing
+pub mod Kept

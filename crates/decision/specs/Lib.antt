@@ -1,0 +1,4 @@
+pub mod Call
+pub mod Own
+pub mod Steps
+pub mod Promises

@@ -1,0 +1,82 @@
+-- Small grammars with their answers, as an independent model gives them: one claim about the definitions. Assumes nothing.
+use Prim.Native.Nat.{ℕ}
+use mathlib.Core.List.{List, [], _∷_}
+use mathlib.Core.Path.{_≡_, refl}
+use Rattle.k_tuple.specs.Strings.{digitsIn, widthOf}
+use Rattle.k_tuple.specs.Order.{cmp, cmpSlots}
+use Rattle.k_tuples.specs.Work.{Answer, got, refused, within, settle}
+use Rattle.k_tuples.specs.States.{sameSets}
+use Rattle.k_tuples.specs.Sets.{sameSet, insert, union, joinSets, member, disjoint}
+use Rattle.cfg.specs.Table.{readTable, productions, symbols}
+use Rattle.cfg.specs.Marks.{anyBelow}
+use Rattle.cfg.specs.Closure.{closeRounds, closeRound, closeOne, allMarked}
+use Rattle.cfg.specs.Corners.{comesBack, walk, visit, turn}
+use Rattle.cfg.specs.Accept.{acceptTable, testRefusal, misses}
+use Rattle.first_theory.specs.Compute.{joinParts, rightSide, roundFrom, round, level, levels, first, productionSets}
+use Rattle.follow_theory.specs.Equations.{start}
+use Rattle.follow_theory.specs.Follow.{joinFor, takeOne, takeAll, positionSets, follow}
+use Rattle.analysis.specs.Analysis.{work}
+use Rattle.decision_theory.specs.Needed.{ownFrom, choicesOf, apartFrom, apart, choicesAt, tryFrom, decide, neededK, grammarFor, decisions, neededKs}
+
+-- S → 5 V; V → 6; V → nothing
+abbrev pub listing : List ℕ
+listing = 2 ∷ 2 ∷ 0 ∷ 3 ∷ 0 ∷ 2 ∷ 11 ∷ 2 ∷ 1 ∷ 1 ∷ 13 ∷ 1 ∷ 0 ∷ []
+
+-- S → 5 S | 6
+abbrev pub fives : List ℕ
+fives = 1 ∷ 2 ∷ 0 ∷ 2 ∷ 0 ∷ 2 ∷ 11 ∷ 0 ∷ 0 ∷ 1 ∷ 13 ∷ []
+
+-- S → 5 5 | 5 6
+abbrev pub two-ahead : List ℕ
+two-ahead = 1 ∷ 2 ∷ 0 ∷ 2 ∷ 0 ∷ 2 ∷ 11 ∷ 11 ∷ 0 ∷ 2 ∷ 11 ∷ 13 ∷ []
+
+-- S → 5 S | 5 S 6 | 5
+abbrev pub never : List ℕ
+never = 1 ∷ 2 ∷ 0 ∷ 3 ∷ 0 ∷ 2 ∷ 11 ∷ 0 ∷ 0 ∷ 3 ∷ 11 ∷ 0 ∷ 13 ∷ 0 ∷ 1 ∷ 11 ∷ []
+
+-- S → 5 5 A 7 | 5 5 A 8; A → B | 5 5; B → 5 | 6
+abbrev pub own-sets : List ℕ
+own-sets = 3 ∷ 4 ∷ 0 ∷ 6 ∷ 0 ∷ 4 ∷ 11 ∷ 11 ∷ 2 ∷ 15 ∷ 0 ∷ 4 ∷ 11 ∷ 11 ∷ 2 ∷ 17 ∷ 1 ∷ 1 ∷ 4 ∷ 1 ∷ 2 ∷ 11 ∷ 11 ∷ 2 ∷ 1 ∷ 11 ∷ 2 ∷ 1 ∷ 13 ∷ []
+
+-- with 4,096 words lent for each of the engine's buffers
+abbrev ks : ℕ → ℕ → List ℕ → Answer (List (Answer ℕ))
+ks limit c table = neededKs limit c table 4096 4096
+
+pub record Needed : Type 0 where
+  pub of-listing : ks 2 8 listing ≡ got (got 0 ∷ got 1 ∷ [])
+  pub of-fives : ks 3 8 fives ≡ got (got 1 ∷ [])
+  pub of-two : ks 2 8 two-ahead ≡ got (got 2 ∷ [])
+  pub of-two-at-one : ks 1 8 two-ahead ≡ got (refused 22 ∷ [])
+  pub of-never : ks 2 8 never ≡ got (refused 22 ∷ [])
+  -- no room for a set of the engine's: passed on
+  pub no-room : ks 2 1 two-ahead ≡ got (refused 11 ∷ [])
+  -- no room for a set of A's own, of four strings: A alone is refused
+  pub no-own-room : ks 2 3 own-sets ≡ got (refused 22 ∷ refused 11 ∷ got 1 ∷ [])
+  pub own-room : ks 2 4 own-sets ≡ got (refused 22 ∷ got 2 ∷ got 1 ∷ [])
+  pub no-limit : ks 0 0 [] ≡ refused 1
+  pub too-far : ks 11 8 listing ≡ refused 1
+  pub no-c : ks 1 0 listing ≡ refused 2
+  pub cut-short : ks 3 8 (1 ∷ []) ≡ refused 3
+  pub left-recursive : ks 3 8 (1 ∷ 1 ∷ 0 ∷ 2 ∷ 0 ∷ 1 ∷ 0 ∷ 0 ∷ 1 ∷ 11 ∷ []) ≡ refused 9
+  pub enough-words : neededKs 2 8 listing 136 136 ≡ ks 2 8 listing
+  pub few-words : neededKs 2 8 listing 4096 135 ≡ refused 10
+
+pub needed : Needed
+unfolding work acceptTable testRefusal misses readTable productions symbols anyBelow closeRounds closeRound closeOne allMarked comesBack walk visit turn first levels level round roundFrom rightSide joinParts productionSets within settle sameSets sameSet insert union joinSets cmp cmpSlots follow takeAll takeOne joinFor positionSets start widthOf digitsIn member disjoint ownFrom choicesOf apartFrom apart choicesAt tryFrom decide neededK grammarFor decisions neededKs
+needed = record {
+  of-listing = refl;
+  of-fives = refl;
+  of-two = refl;
+  of-two-at-one = refl;
+  of-never = refl;
+  no-room = refl;
+  no-own-room = refl;
+  own-room = refl;
+  no-limit = refl;
+  too-far = refl;
+  no-c = refl;
+  cut-short = refl;
+  left-recursive = refl;
+  enough-words = refl;
+  few-words = refl;
+}

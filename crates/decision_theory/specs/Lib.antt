@@ -1,0 +1,4 @@
+pub mod Needed
+pub mod Steps
+pub mod Exercises
+pub mod Promises

@@ -1,0 +1,74 @@
+-- What is promised of the definitions of K3. Each promise is a definition here, and a theorem of that type in proofs/Kept.antt. Assumes nothing.
+use Prim.Native.Nat.{ℕ, suc, _≤_, _<_}
+use mathlib.Core.Path.{_≡_}
+use mathlib.Core.Bool.{true}
+use mathlib.Core.Logic.{_↔_}
+use mathlib.Core.List.{List, [], _++_}
+use lib.ListN.{length}
+use Rattle.cfg.specs.Grammar.{Word, Grammar, Accepted}
+use Rattle.k_tuple.specs.Strings.{complete}
+use Rattle.k_tuples.specs.Work.{Answer, got, refused}
+use Rattle.first_theory.specs.Compute.{str}
+use Rattle.decision_theory.specs.Needed.{Of, Ahead, Serves, OneProduction, Needs, neededK, WorkedOut, NoneBelow, NotWorkedOut, neededKs, CallAnswered}
+
+-- ---- the answers
+
+-- Every input is answered as the rules say.
+abbrev pub NeededAnswered : Type 0
+NeededAnswered = (limit c : ℕ) (table : List ℕ) (result scratch : ℕ) → CallAnswered limit c table result scratch (neededKs limit c table result scratch)
+
+-- There is one such answer.
+abbrev pub NeededOne : Type 0
+NeededOne = (limit c : ℕ) (table : List ℕ) (result scratch : ℕ) (x : Answer (List (Answer ℕ)))
+    → CallAnswered limit c table result scratch x → x ≡ neededKs limit c table result scratch
+
+-- ---- one nonterminal of an accepted grammar
+
+-- A nonterminal needs one k.
+abbrev pub NeedsOne : Type 0
+NeedsOne = (g : Grammar) (A j k : ℕ) → Needs g A j → Needs g A k → j ≡ k
+
+-- what holds for every nonterminal of an accepted grammar, with room for at least one member
+abbrev Always : (Grammar → (c limit A : ℕ) → Type 0) → Type 0
+Always P = (g : Grammar) → Accepted g → (c : ℕ) → 1 ≤ c → (limit A : ℕ) → P g c limit A
+
+-- A k that is answered for a nonterminal is the k that it needs.
+abbrev pub NeededRight : Type 0
+NeededRight = Always (λ g c limit A. (k : ℕ) → neededK c g A limit ≡ got k → Needs g A k)
+
+-- And the k that it needs is answered, where it and those before it were worked out.
+abbrev pub NeededFound : Type 0
+NeededFound = Always (λ g c limit A. (k : ℕ) → Needs g A k → k ≤ limit → ((j : ℕ) → 1 ≤ j → j ≤ k → WorkedOut g c A j) → neededK c g A limit ≡ got k)
+
+-- 0 is answered exactly where there is one production.
+abbrev pub ZeroExactly : Type 0
+ZeroExactly = Always (λ g c limit A. (neededK c g A limit ≡ got 0) ↔ OneProduction g A)
+
+-- 22 is given exactly when every k up to the limit was worked out and none serves.
+abbrev pub TwentyTwoExactly : Type 0
+TwentyTwoExactly = Always (λ g c limit A. (neededK c g A limit ≡ refused 22) ↔ (¬ OneProduction g A × NoneBelow g c A (suc limit)))
+
+-- 11 is given exactly when some k up to the limit was not worked out, by the engine or for a set of its own, and none before it serves.
+abbrev pub ElevenExactly : Type 0
+ElevenExactly = Always (λ g c limit A. (neededK c g A limit ≡ refused 11) ↔ (¬ OneProduction g A × NotWorkedOut g c limit A))
+
+-- What is decided stays decided at any limit that reaches its k.
+abbrev pub StaysDecided : Type 0
+StaysDecided = Always (λ g c limit A. (more k : ℕ) → neededK c g A limit ≡ got k → k ≤ more → neededK c g A more ≡ got k)
+
+-- ---- the joined strings
+
+-- Every joined string is complete; so none is ε.
+abbrev pub JoinedComplete : Type 0
+JoinedComplete = (g : Grammar) → Accepted g → (k : ℕ) → 1 ≤ k → (i : ℕ) → i < length (g .productions) → (w : Word) → Ahead g k i w
+    → (complete k (str w) ≡ true) × ¬ (w ≡ [])
+
+-- None begins another one: of two joined strings, of whatever productions, neither is a proper prefix of the other.
+abbrev pub NoneBegins : Type 0
+NoneBegins = (g : Grammar) → Accepted g → (k : ℕ) → 1 ≤ k → (i j : ℕ) → i < length (g .productions) → j < length (g .productions)
+    → (u x : Word) → Ahead g k i u → Ahead g k j (u ++ x) → x ≡ []
+
+-- And where k serves a nonterminal, a string that begins one of its strings is of the same production.
+abbrev pub JoinedApart : Type 0
+JoinedApart = (g : Grammar) → Accepted g → (k : ℕ) → 1 ≤ k → (A : ℕ) → Serves g k A → (i j : ℕ) → Of g A i → Of g A j
+    → (u x : Word) → Ahead g k i u → Ahead g k j (u ++ x) → (x ≡ []) × (i ≡ j)

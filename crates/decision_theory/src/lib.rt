@@ -1,0 +1,1 @@
+// Which k a grammar needs, as definitions and theorems. No program code.
