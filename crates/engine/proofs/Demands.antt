@@ -17,6 +17,7 @@ use Rattle.k_tuples.specs.Held.{setIn}
 use Rattle.k_tuples.proofs.RoundTrip.{written-read}
 use Rattle.first_theory.specs.First.{First}
 use Rattle.follow_theory.specs.Follow.{Follow, AtPosition, Occurrence}
+use Rattle.messages.proofs.Computed.{set-of-messages}
 use Rattle.analysis.specs.Analysis.{Analysis, analyse}
 use Rattle.analysis.specs.Promises.{EnoughRoom, IsSetOf, Analysed, Between, IsTableOf, EnoughWords, Verdict}
 use Rattle.analysis.proofs.Kept.{not-refused, answers-right}
@@ -147,6 +148,7 @@ module _ (k c : ℕ) (table result scratch : List ℕ) (r : Lookahead) (R S : Li
           production-by-aho-ullman = λ i h. each-index no-production (is .production-sets-by-aho-ullman) i h;
           follows = a .follows;
           follow = λ A h. gives 2 A (Follow g k A) (rw (is .sizes .follows) h) (is .follow-sets A);
+          follow-in-messages = λ reach A h. set-of-messages g ok reach k (analyse-got k c table (length result) (length scratch) a e .k>0) A (setOf (a .follows) A) (is .follow-sets A);
           positions = a .positions;
           position = λ i h.
               gives 3 i (AtPosition g k (positionOf g i .source) (positionOf g i .rest)) (rw (many .positions, is .sizes .q) h)

@@ -13,6 +13,7 @@ use Rattle.k_tuples.specs.Work.{Answer}
 use Rattle.k_tuples.specs.Held.{setWords, setIn, good, widthFor}
 use Rattle.first_theory.specs.First.{First, AhoUllman}
 use Rattle.follow_theory.specs.Follow.{Follow, AtPosition, Occurrence, occurrencesOf}
+use Rattle.messages.specs.Messages.{InMessages, AllReachable}
 use Rattle.analysis.specs.Analysis.{Analysis}
 use Rattle.analysis.specs.Promises.{EnoughRoom, IsSetOf, LevelRounds, FollowRounds, AnyOrder, Between, IsTableOf, EnoughWords, Verdict}
 use Rattle.engine.specs.declared.Lookahead.{Lookahead}
@@ -47,8 +48,9 @@ abbrev pub positionOf : Grammar → ℕ → Occurrence
 positionOf g i = getD (occurrencesOf (g .productions)) i (record { target = 0; source = 0; rest = [] })
 
 -- Of a call that was not refused: the table is the writing of an accepted grammar within the limits; the sets that are asked for are the textbook's
--- FIRST, in both its forms, and the equations' FOLLOW; each count of rounds is that of the first round that repeats the sets before it, a level's at
--- most n + 1 and FOLLOW's at most the members of its sets; and FOLLOW is the same in any order of the equations.
+-- FIRST, in both its forms, and the equations' FOLLOW, which is what messages show where every nonterminal can be reached; each count of rounds is that
+-- of the first round that repeats the sets before it, a level's at most n + 1 and FOLLOW's at most the members of its sets; and FOLLOW is the same in
+-- any order of the equations.
 pub record Demand23 (k c : ℕ) (table : List ℕ) (r : Lookahead) (words : List ℕ) : Type 0 where
   pub g : Grammar
   pub table-of : IsTableOf g table
@@ -67,6 +69,7 @@ pub record Demand23 (k c : ℕ) (table : List ℕ) (r : Lookahead) (words : List
   pub production-by-aho-ullman : (i : ℕ) → i < length (g .productions) → IsSetOf (AhoUllman g k (rightOf g i)) (setOf productions i)
   pub follows : State
   pub follow : (A : ℕ) → A < g .n → Gives k c r words 2 A (setOf follows A) (Follow g k A)
+  pub follow-in-messages : AllReachable g → (A : ℕ) → A < g .n → IsSetOf (InMessages g k A) (setOf follows A)
   pub positions : State
   pub position : (i : ℕ) → i < length (occurrencesOf (g .productions))
       → Gives k c r words 3 i (setOf positions i) (AtPosition g k (positionOf g i .source) (positionOf g i .rest))
