@@ -2,9 +2,9 @@
 // k = 4 and unites the result with the first. The input is the number of rounds, of members, and of words (at most 2,049) for the join and for the
 // union; the output is a checksum of what every round made.
 ghost use Prim.Native.Nat.{_<_};
+use k_joins::k_concat;
 use k_tuple::StringAnswer;
 use k_tuple::Terminals;
-use k_tuples::k_concat;
 use k_tuples::union;
 use libc::STDIN_FILENO;
 use replay::told;

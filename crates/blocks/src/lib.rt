@@ -20,7 +20,7 @@ pub fn join_into(
 {
     let at = out * b;
     let end = at + b;
-    k_tuples::set::join_sets_over(&mut words[at..end], xs, ys, k)
+    k_joins::join::join_sets_over(&mut words[at..end], xs, ys, k)
 }
 
 // Adds the join of two sets to block out.
@@ -38,7 +38,7 @@ pub fn join_add(
 {
     let at = out * b;
     let end = at + b;
-    k_tuples::set::join_into(&mut words[at..end], xs, ys, k)
+    k_joins::join::join_into(&mut words[at..end], xs, ys, k)
 }
 
 // Adds a set to block to.

@@ -9,7 +9,7 @@ use Rattle.k_tuples.specs.Sets.{_∈_, Sorted, Joined, stays, meets, joinSets, 
 use Rattle.k_tuples.specs.States.{State}
 use Rattle.k_tuples.specs.Work.{got, within}
 use Rattle.k_tuples.proofs.Sets.{joinSets-only, allComplete-means}
-use Rattle.k_tuples.proofs.Classes.{join-eps}
+use Rattle.k_tuples.proofs.Joins.{join-eps}
 use Rattle.first_theory.specs.First.{Part}
 use Rattle.first_theory.specs.Compute.{partSet, joinParts}
 

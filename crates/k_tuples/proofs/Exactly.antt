@@ -12,7 +12,7 @@ use Rattle.k_tuple.proofs.Column.{Means, ltb-means, eqb-means, not-means, or-me
 use Rattle.k_tuples.specs.Sets.{disjoint, completeSet}
 use Rattle.k_tuples.specs.Words.{roomOf}
 use Rattle.k_tuples.specs.Held.{DecodedSet, bad, good, setIn}
-use Rattle.k_tuples.specs.Answers.{isBad, widthIn, membersIn, suits, outside, noWords, twoSets, unionSet, unionAnswer, commonSet, intersectAnswer, joinSet, joinAnswer, disjointAnswer, completeAnswer}
+use Rattle.k_tuples.specs.Answers.{isBad, widthIn, membersIn, suits, outside, noWords, twoSets, unionSet, unionAnswer, commonSet, intersectAnswer, disjointAnswer, completeAnswer}
 
 -- ---- what the tests mean
 
@@ -25,7 +25,7 @@ outside-means k = or-means _ _ (eqb-means k 0) (ltb-means 10 k)
 abbrev pub NoWords : List ℕ → Type 0
 NoWords ws = length ws ≡ 0
 
-none-means : (a b : List ℕ) → Means (noWords a || noWords b) (NoWords a ⊎ NoWords b)
+pub none-means : (a b : List ℕ) → Means (noWords a || noWords b) (NoWords a ⊎ NoWords b)
 none-means a b = or-means _ _ (eqb-means _ 0) (eqb-means _ 0)
 
 bad-means : (d : DecodedSet) → Means (isBad d) (d ≡ bad)
@@ -50,7 +50,7 @@ twoRows k None a b c =
     15 for ¬ Suit (widthIn (setIn k a)) (widthIn (setIn k b)) else
     c
 
-two-tests : (k : ℕ) (a b : List ℕ) {None : Type 0} {c : Column} (none : Bool) → Means none None → (t : Tests) → Says (zeros t) (outcome t) c → Says (zeros t) (outcome (twoSets k none a b t)) (twoRows k None a b c)
+pub two-tests : (k : ℕ) (a b : List ℕ) {None : Type 0} {c : Column} (none : Bool) → Means none None → (t : Tests) → Says (zeros t) (outcome t) c → Says (zeros t) (outcome (twoSets k none a b t)) (twoRows k None a b c)
 unfolding twoSets
 two-tests k a b none m t s =
     test _ (outside-means k) (test _ m (test _ (or-means _ _ (bad-means (setIn k a)) (bad-means (setIn k b))) (test _ (not-means _ (suit-means _ _)) s)))
@@ -71,13 +71,6 @@ module _ (k n : ℕ) (a b : List ℕ) where
       values []))
   unfolding intersectAnswer
   intersect-exactly = exactly refl (two-tests k a b _ (or-means _ _ (none-means a b) (eqb-means n 0)) _ (test _ (ltb-means _ _) (answered refl)))
-
-  pub join-exactly : Exactly (joinAnswer k n a b) (
-      twoRows k ((NoWords a ⊎ NoWords b) ⊎ (n ≡ 0)) a b (
-      11 for roomOf n < length (joinSet k a b) else
-      values []))
-  unfolding joinAnswer
-  join-exactly = exactly refl (two-tests k a b _ (or-means _ _ (none-means a b) (eqb-means n 0)) _ (test _ (ltb-means _ _) (answered refl)))
 
 pub disjoint-exactly : (k : ℕ) (a b : List ℕ) → Exactly (disjointAnswer k a b) (
     twoRows k (NoWords a ⊎ NoWords b) a b (

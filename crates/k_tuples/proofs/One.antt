@@ -7,7 +7,7 @@ use lib.Dec.{eqb}
 use lib.ListN.{length, getD}
 use Rattle.k_tuple.specs.Paper.{Paper, refused, gives}
 use Rattle.k_tuple.proofs.One.{One, known}
-use Rattle.k_tuples.specs.Answers.{unionOnPaper, setOnPaper, testOnPaper, unionAnswer, unionWords, intersectAnswer, intersectWords, joinAnswer, joinWords, disjointAnswer, completeAnswer}
+use Rattle.k_tuples.specs.Answers.{unionOnPaper, setOnPaper, testOnPaper, unionAnswer, unionWords, intersectAnswer, intersectWords, disjointAnswer, completeAnswer}
 use Rattle.k_tuples.specs.declared.UnionAnswer.{UnionAnswer}
 use Rattle.k_tuples.specs.declared.UnionAnswer.the-variants as U
 use Rattle.k_tuples.specs.declared.SetAnswer.{SetAnswer}
@@ -56,7 +56,7 @@ test-known = known testOnPaper test-back way
 abbrev pub OneWords : List ℕ → Type 0
 OneWords ws = One (λ (o : List ℕ). o) ws
 
-words-known : (ws : List ℕ) → OneWords ws
+pub words-known : (ws : List ℕ) → OneWords ws
 words-known ws o p e f = e ∙ sym f
 
 -- ---- the functions, by their contracts
@@ -67,9 +67,6 @@ module _ (k : ℕ) (a b : List ℕ) where
 
   pub intersect-one : (out : List ℕ) → One setOnPaper (intersectAnswer k (length out) a b) × OneWords (intersectWords k a b out)
   intersect-one out = (set-known _, words-known _)
-
-  pub join-one : (out : List ℕ) → One setOnPaper (joinAnswer k (length out) a b) × OneWords (joinWords k a b out)
-  join-one out = (set-known _, words-known _)
 
   pub disjoint-one : One testOnPaper (disjointAnswer k a b)
   disjoint-one = test-known _

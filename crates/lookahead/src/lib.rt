@@ -31,7 +31,7 @@ pub use k_tuples::is_disjoint;
 // Whether a set has a member and every member is complete at k.
 pub use k_tuples::is_k_complete;
 // The complete members of the first set, and each other member joined with each of the second.
-pub use k_tuples::k_concat;
+pub use k_joins::k_concat;
 // The members of both sets, and whether that is more than the first has.
 pub use k_tuples::union;
 

@@ -1,12 +1,12 @@
 // Stored cases of sets: each runs through a public function, and its answer is printed, with the words of the output where there is one.
 // The output lent to a call is full of marks before it, so that words left as they came are seen.
+use k_joins::k_concat;
 use k_tuples::SetAnswer;
 use k_tuples::TestAnswer;
 use k_tuples::UnionAnswer;
 use k_tuples::intersection;
 use k_tuples::is_disjoint;
 use k_tuples::is_k_complete;
-use k_tuples::k_concat;
 use k_tuples::union;
 use replay::find;
 use replay::is;

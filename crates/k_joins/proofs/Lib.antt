@@ -1,0 +1,9 @@
+pub mod Pairing
+pub mod Adding
+pub mod Order
+pub mod Classes
+pub mod Meeting
+pub mod Running
+pub mod Joining
+pub mod One
+pub mod Exactly

@@ -1,0 +1,39 @@
+-- `k_joins::runs::add_cut` meets its contract. Assumes nothing.
+use Rattle.k_tuples.proofs.Words.{well-formed-at}
+use Rattle.k_joins.proofs.Running.{no-cut, cut-given}
+use borrow.Author.Needs.{needs}
+use Rattle.k_joins.proofs.runs.add_cut.Statement.{statement}
+use Rattle.k_joins.proofs.runs.add_cut.Tie as tie
+
+member-requires : tie.Need-member-requires
+member-requires c κs = search needs
+
+is-eps-requires : tie.Need-is-eps-requires
+is-eps-requires c κs = search well-formed-at
+
+returns : tie.Need-returns
+returns c = search no-cut
+
+cut-requires : tie.Need-cut-requires
+cut-requires c κs = (search well-formed-at, search needs)
+
+insert-requires : tie.Need-insert-requires
+insert-requires c κs = search needs
+
+same-length : tie.Need-same-length
+same-length c = search needs
+
+returns-2 : tie.Need-returns-2
+returns-2 c = search cut-given
+
+pub add-cut-spec : {M : Type 1} → statement M
+add-cut-spec =
+    tie.close
+    (tie.spec
+    member-requires
+    is-eps-requires
+    returns
+    cut-requires
+    insert-requires
+    same-length
+    returns-2)

@@ -1,0 +1,46 @@
+-- `k_joins::runs::push` meets its contract. Assumes nothing.
+use Rattle.k_joins.proofs.Running.{pushed}
+use borrow.Author.Needs.{needs}
+use Rattle.k_joins.proofs.runs.push.Statement.{statement}
+use Rattle.k_joins.proofs.runs.push.Tie as tie
+
+mul-put-in : tie.Need-mul-put-in
+mul-put-in c = search needs
+
+add-put-in : tie.Need-add-put-in
+add-put-in c = search needs
+
+mul-put-in-2 : tie.Need-mul-put-in-2
+mul-put-in-2 c = search needs
+
+add-put-in-2 : tie.Need-add-put-in-2
+add-put-in-2 c = search needs
+
+put-in-requires : tie.Need-put-in-requires
+put-in-requires c κs = search needs
+
+add-set-count : tie.Need-add-set-count
+add-set-count c = search needs
+
+set-count-requires : tie.Need-set-count-requires
+set-count-requires c κs = search needs
+
+same-length : tie.Need-same-length
+same-length c = search needs
+
+returns : tie.Need-returns
+returns c = search pushed
+
+pub push-spec : {M : Type 1} → statement M
+push-spec =
+    tie.close
+    (tie.spec
+    mul-put-in
+    add-put-in
+    mul-put-in-2
+    add-put-in-2
+    put-in-requires
+    add-set-count
+    set-count-requires
+    same-length
+    returns)
