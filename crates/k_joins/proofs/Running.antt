@@ -23,7 +23,7 @@ use Rattle.k_tuples.proofs.Rising.{both, rising-addAll, length-addAll, addAll-a
 use Rattle.k_tuples.proofs.Words.{length-decode, rest-member, set-some, set-fits, decode-encode, length-encode, encode-is-set, encode-none, zeros-set}
 use Rattle.k_tuples.proofs.Inserting.{grown-full, grew-idle, gap-encode}
 use Rattle.k_tuples.proofs.Filling.{Way, Filling, grown-fits, grew-over, grew-fits, grew-length, grew-decode, grew-set}
-use Rattle.k_joins.specs.Parts.{between, cutOf, cutsOf, keepOf, keepsOf, followsOf, runOf, meetOf, meetsOf, leftOf, leftsOf, InClass, ClassTold, ClassEnd, Follows, AllFollow, AllPairs, Coded, BlankCut, BlankRun, RunPart, Gathered, ChunkEnd}
+use Rattle.k_joins.specs.Parts.{between, cutOf, CutAdded, cutsOf, keepOf, keepsOf, followsOf, runOf, meetOf, meetsOf, leftOf, leftsOf, InClass, ClassTold, ClassEnd, Follows, AllFollow, AllPairs, Coded, BlankCut, BlankRun, RunPart, Gathered, ChunkEnd}
 use Rattle.k_joins.proofs.Adding.{addAll-most}
 
 -- ---- parts of a set
@@ -80,18 +80,18 @@ way-last W p x =
     way-append W p (x ∷ []) ∙ ap (λ (l : List Terminals). W .all p ++ l) (W .more x [] ∙ ap (λ (l : List Terminals). W .one x ++ l) (W .none) ∙ append-nil (W .one x))
 
 module _ {out exit : List ℕ} {m : Terminals} {g : Grown} {t : Bool} (y : Terminals) (at : m ≡ y) where
-  pub cut-given : {z : Terminals} (r : ℕ) → t ≡ epsIn (reads m) → t ≡ false → z ≡ cutIn r (reads m) → Grew out exit (adding z (decode out)) g → Grew out exit (addAll (cutOf r y) (decode out)) g
+  pub cut-given : {z : Terminals} (r : ℕ) → t ≡ epsIn (reads m) → t ≡ false → z ≡ cutIn r (reads m) → Grew out exit (adding z (decode out)) g → CutAdded r y out exit
   unfolding addAll
-  cut-given r told e f h = rw (sym at, sym told, e, sym f) h
+  cut-given r told e f h = record { told = g; grew = rw (sym at, sym told, e, sym f) h }
 
   pub kept-given : (k : ℕ) → t ≡ completeIn k (reads m) → t ≡ true → Grew out exit (adding m (decode out)) g → Grew out exit (addAll (keepOf k y) (decode out)) g
   unfolding addAll
   kept-given k told e h = rw (sym at, sym told, e) h
 
 module _ {out : List ℕ} {m : Terminals} {t : Bool} (y : Terminals) (at : m ≡ y) where
-  pub no-cut : (r : ℕ) → t ≡ epsIn (reads m) → t ≡ true → IsSet out → Grew out out (addAll (cutOf r y) (decode out)) Same
+  pub no-cut : (r : ℕ) → t ≡ epsIn (reads m) → t ≡ true → IsSet out → CutAdded r y out out
   unfolding addAll
-  no-cut r told e s = rw (sym at, sym told, e) (grew-idle s)
+  no-cut r told e s = record { told = Same; grew = rw (sym at, sym told, e) (grew-idle s) }
 
   pub not-kept : (k : ℕ) → t ≡ completeIn k (reads m) → t ≡ false → IsSet out → Grew out out (addAll (keepOf k y) (decode out)) Same
   unfolding addAll

@@ -143,6 +143,11 @@ pub record RunPart (k : ℕ) (xs : List ℕ) (i e : ℕ) (ds : List ℕ) (j f : 
   pub fits : 2 * length (runOf k (between i e xs) (between j f ds)) + 1 ≤ 255
   pub is : ws ≡ encode 255 (runOf k (between i e xs) (between j f ds))
 
+-- y was added, cut to r slots, unless it is ε
+pub record CutAdded (r : ℕ) (y : Terminals) (ws ws′ : List ℕ) : Type 0 where
+  pub told : Grown
+  pub grew : Grew ws ws′ (addAll (cutOf r y) (decode ws)) told
+
 -- what a part of a set, of at most 127 members, gives has been gathered
 pub record Gathered (new : List Terminals) (ws : List ℕ) : Type 0 where
   pub is-set : IsSet ws

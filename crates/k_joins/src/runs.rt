@@ -7,21 +7,21 @@ ghost use mathlib.Core.List.{[], _∷_, _++_};
 ghost use lib.ListN.{length, getD, replicate};
 ghost use Rattle.k_tuple.specs.Wide.{value};
 ghost use Rattle.k_tuple.specs.Strings.{widthField, countField, slotsField};
-ghost use Rattle.k_tuple.specs.Packed.{WellFormed, number-of, reads, joined};
+ghost use Rattle.k_tuple.specs.Packed.{WellFormed, number-of, reads, joined, cutIn};
 ghost use Rattle.k_tuples.specs.Members.{rising, addAll, pairsOf};
 ghost use Rattle.k_tuples.specs.Words.{memberAt, encode, decode, IsSet, Grew, AllJoinable, AllWellFormed};
-ghost use Rattle.k_joins.specs.Parts.{between, cutOf, cutsOf, keepOf, keepsOf, followsOf, runOf, meetsOf, leftsOf, hasEps, stayOf, secondOf, Joining, InClass, ClassTold, ClassEnd, Follows, AllFollow, AllPairs, Coded, BlankCut, BlankRun, RunPart, Gathered, ChunkEnd, PartStep, SizesTold};
+ghost use Rattle.k_joins.specs.Parts.{between, cutsOf, CutAdded, keepOf, keepsOf, followsOf, runOf, meetsOf, leftsOf, hasEps, stayOf, secondOf, Joining, InClass, ClassTold, ClassEnd, Follows, AllFollow, AllPairs, Coded, BlankCut, BlankRun, RunPart, Gathered, ChunkEnd, PartStep, SizesTold};
 use crate::pairs::join_plain;
 use k_tuple::Terminals;
 use k_tuple::parts::count as slot_count;
 use k_tuple::parts::sealed;
 use k_tuple::parts::slots;
 use k_tuple::parts::width;
-use k_tuple::well::cut;
 use k_tuple::well::eps;
 use k_tuple::well::is_complete;
 use k_tuple::well::is_eps;
 use k_tuple::wide::Words;
+use k_tuple::wide::low_part;
 use k_tuple::wide::stacked;
 use k_tuples::set::Grown;
 use k_tuples::set::clear_set;
@@ -29,8 +29,10 @@ use k_tuples::set::count;
 use k_tuples::set::growth;
 use k_tuples::set::has;
 use k_tuples::set::insert;
+use k_tuples::set::insert_at;
 use k_tuples::set::is_full;
 use k_tuples::set::member;
+use k_tuples::set::place_near;
 use k_tuples::set::put_in;
 use k_tuples::set::set_count;
 use k_tuples::set::union_into;
@@ -162,26 +164,42 @@ fn chunk_end(j: usize, n: usize) -> usize
     j + CHUNK
 }
 
-// Adds member i of ys to d, cut to r slots, unless it is ε.
-fn add_cut(d: &mut [u64], ys: &[u64], i: usize, r: u64) -> Grown
+// The first m slots of y, cut off by whole words.
+fn shortened(y: Terminals, m: u64) -> Terminals
+    requires { ⌜ WellFormed y × (m ≤ 10) ⌝ }
+    ensures { λ r. ⌜ r ≡ cutIn m (reads y) ⌝ }
+{
+    if slot_count(y) <= m {
+        return y;
+    }
+    let w = width(y);
+    sealed(w, m, low_part(slots(y), m * w))
+}
+
+// Adds member i of ys to d, cut to r slots, unless it is ε. It is looked for behind member f first; tells where it stands.
+fn add_cut(d: &mut [u64], ys: &[u64], i: usize, r: u64, f: usize) -> usize
     requires { ⌜ IsSet (now d) × (IsSet (now ys) × ((i < length (decode (now ys))) × (AllWellFormed (now ys) × (r ≤ 10)))) ⌝ }
-    ensures { λ g. ⌜ Grew (now (d .entry)) (now (d .exit)) (addAll (cutOf r (memberAt (now (ys .entry)) (2 * i + 1))) (decode (now (d .entry)))) g ⌝ }
+    ensures { λ _. ⌜ CutAdded r (memberAt (now (ys .entry)) (2 * i + 1)) (now (d .entry)) (now (d .exit)) ⌝ }
 {
     let y = member(ys, i);
     if is_eps(y) {
-        return Grown::Same;
+        return f;
     }
-    insert(d, cut(y, r))
+    let x = shortened(y, r);
+    let p = place_near(d, x, f);
+    insert_at(d, p, x);
+    p
 }
 
-// Makes d the set of the members j to e of ys but ε, each cut to r slots.
+// Makes d the set of the members j to e of ys but ε, each cut to r slots. Cuts of members that share their last slots rise, so each is looked for behind the one before it.
 fn cut_into(d: &mut [u64], ys: &[u64], j: usize, e: usize, r: u64)
     requires { ⌜ (BlankCut (now d) × IsSet (now ys)) × (ChunkEnd (length (decode (now ys))) j e × (AllWellFormed (now ys) × (r ≤ 10))) ⌝ }
     ensures { λ _. ⌜ Gathered (cutsOf r (between j e (now (ys .entry)))) (now (d .exit)) ⌝ }
 {
     let mut t = j;
+    let mut f = 0;
     while t < e {
-        add_cut(d, ys, t, r);
+        f = add_cut(d, ys, t, r, f);
         t += 1;
     }
 }

@@ -14,11 +14,14 @@ is-eps-requires c κs = search well-formed-at
 returns : tie.Need-returns
 returns c = search no-cut
 
-cut-requires : tie.Need-cut-requires
-cut-requires c κs = (search well-formed-at, search needs)
+shortened-requires : tie.Need-shortened-requires
+shortened-requires c κs = (search well-formed-at, search needs)
 
-insert-requires : tie.Need-insert-requires
-insert-requires c κs = search needs
+place-near-requires : tie.Need-place-near-requires
+place-near-requires c κs = search needs
+
+insert-at-requires : tie.Need-insert-at-requires
+insert-at-requires c κs = search needs
 
 same-length : tie.Need-same-length
 same-length c = search needs
@@ -33,7 +36,8 @@ add-cut-spec =
     member-requires
     is-eps-requires
     returns
-    cut-requires
-    insert-requires
+    shortened-requires
+    place-near-requires
+    insert-at-requires
     same-length
     returns-2)

@@ -7,10 +7,10 @@ use Rattle.k_joins.proofs.runs.cut_into.Statement.{statement}
 use Rattle.k_joins.proofs.runs.cut_into.Tie as tie
 
 abbrev Inv-loop : tie.InvT-loop
-Inv-loop d₀ ys j e r t₀ d t = Gathering (its-cut r) ys j e t d
+Inv-loop d₀ ys j e r t₀ f₀ d t f = Gathering (its-cut r) ys j e t d
 
 abbrev μ-loop : tie.MeasureT-loop
-μ-loop d₀ ys j e r t₀ d t = e - t
+μ-loop d₀ ys j e r t₀ f₀ d t f = e - t
 
 loop-holds : tie.Need-loop-holds Inv-loop μ-loop
 loop-holds c = search gather-start
@@ -25,7 +25,7 @@ loop-less : tie.Need-loop-less Inv-loop μ-loop
 loop-less c = omega arith
 
 loop-again : tie.Need-loop-again Inv-loop μ-loop
-loop-again c = gather-more (c .before .before .before .before .before .loop .inv) (c .before .before .before .before .before .before .before .before .pre .1 .0) (omega arith) (one-cut _ _) (c .before .before .add-cut .ensures)
+loop-again c = gather-more (c .before .before .before .before .before .loop .inv) (c .before .before .before .before .before .before .before .before .pre .1 .0) (omega arith) (one-cut _ _) (c .before .before .add-cut .ensures .grew)
 
 same-length : tie.Need-same-length Inv-loop μ-loop
 same-length c = search needs
