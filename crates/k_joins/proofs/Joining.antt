@@ -418,6 +418,50 @@ before-length (slots (a ∷ [])) eps e = omega arith
 before-length (slots (a ∷ c ∷ s)) eps e = absurd (lt≢gt (sym e))
 before-length (slots s) (slots t) e = ≮-length s t (λ g. lt≢gt (sym e ∙ g))
 
+-- the strings of a set in order do not get shorter
+lengths-rise : (b : List Str) → Sorted b → (i j : ℕ) → i ≤ j → j < length b → lengthOf (getD b i eps) ≤ lengthOf (getD b j eps)
+lengths-rise b s i j h l = by (decLe j i)
+  where
+    by : Dec (j ≤ i) → lengthOf (getD b i eps) ≤ lengthOf (getD b j eps)
+    by (yes q) = let e : i ≡ j = omega arith in rw e (le-refl (lengthOf (getD b j eps)))
+    by (no q) = before-length (getD b i eps) (getD b j eps) (sorted-places eps b s i j (omega arith) l)
+
+-- a string of k slots or more is complete, or ε
+long-idle : (k : ℕ) (z : Str) → k ≤ lengthOf z → (complete k z || isEps z) ≡ true
+long-idle k eps h = refl
+long-idle k (slots s) h = rw (le-leb k (length s) h)
+
+long-none : (k w : ℕ) (l : List Str) (ts : List Terminals) → AllWell w l → ((z : Str) → z ∈ l → k ≤ lengthOf z) → leftsOf k (map (packed w) l) ts ≡ []
+long-none k w [] ts f h = refl
+long-none k w (z ∷ l) ts f h =
+    let d = reads-packed w z (f z (here refl)) in
+    let e : (completeIn k (reads (packed w z)) || epsIn (reads (packed w z))) ≡ true = ap₂ (λ (s t : Bool). s || t) (ap (completeIn k) d) (ap epsIn d) ∙ long-idle k z (h z (here refl)) in
+    rw e (long-none k w l ts (λ y m. f y (there m)) (λ y m. h y (there m)))
+
+-- from a member of k slots on, none has anything left
+pub long-step : {k i n l : ℕ} {x : Terminals} {xs ys ws : List ℕ} → Joining k xs ys → x ≡ memberAt xs (2 * i + 1) → i < length (decode xs) → IsSet ws → l ≡ countField (number-of x) → k ≤ l → n ≡ length (decode xs)
+    → PartStep k xs ys i (record { full = false; at = n }) ws ws
+unfolding addAll
+long-step {k} {i} {n} {l} {x} {xs} {ys} {ws} j at h s count long whole =
+    let w = j .width in
+    let a = j .a in
+    let size : length (decode xs) ≡ length a = as-many (j .first) in
+    let here-long : l ≡ lengthOf (getD a i eps) = count ∙ ap (λ (t : Terminals). countField (number-of t)) at
+    ∙ seen (memberAt xs (2 * i + 1)) (record { width = w; str = getD a i eps; is = member-reads (j .first) i h }) .count in
+    let none : leftsOf k (between i n xs) (decode ys) ≡ [] =
+    ap (λ (ts : List Terminals). leftsOf k ts (decode ys)) (between-is (j .first) i n)
+    ∙ long-none k w (drop i (take n a)) (decode ys) (part-well (j .first) i n) (λ z m.
+    let p = placed i n a z m in
+    let longer = lengths-rise a (j .first .sorted) i (p .place) (p .from) (p .within) in
+    subst (λ (v : Str). k ≤ lengthOf v) (sym (p .is)) (omega arith)) in
+    record {
+      told = Same;
+      more = omega arith;
+      within = omega arith;
+      full = refl;
+      grew = rw none (grew-idle s);
+    }
+
 rising-in-order : (w : ℕ) (a : List Str) → AllWell w a → rising (map (packed w) a) ≡ inOrder a
 unfolding rising before inOrder
 rising-in-order w [] h = refl
@@ -494,18 +538,11 @@ module _ {k : ℕ} {xs ys : List ℕ} (j : AllJoinable k xs ys) (s : IsSet xs) (
       subst (λ (v : Str). (0 < lengthOf v) × (lengthOf v ≤ k)) (sym (p .is))
       (omega (arith, told .least refl, from b (p .place) within), omega (arith, told .most refl, to b (p .place) (length (decode ys) - 1) (omega arith) (omega arith)))
     where
-      ordered : (b : List Str) → Sorted b → (i j : ℕ) → i ≤ j → j < length b → lengthOf (getD b i eps) ≤ lengthOf (getD b j eps)
-      ordered b s i j h l = by (decLe j i)
-        where
-          by : Dec (j ≤ i) → lengthOf (getD b i eps) ≤ lengthOf (getD b j eps)
-          by (yes q) = let e : i ≡ j = omega arith in rw e (le-refl (lengthOf (getD b j eps)))
-          by (no q) = before-length (getD b i eps) (getD b j eps) (sorted-places eps b s i j (omega arith) l)
-
       from : (b : List Str) (i : ℕ) → i < length (strings (decode ys)) → lengthOf (getD (strings (decode ys)) 0 eps) ≤ lengthOf (getD (strings (decode ys)) i eps)
-      from b i h = ordered (strings (decode ys)) (second-strings .sorted) 0 i (omega arith) h
+      from b i h = lengths-rise (strings (decode ys)) (second-strings .sorted) 0 i (omega arith) h
 
       to : (b : List Str) (i m : ℕ) → i ≤ m → m < length (strings (decode ys)) → lengthOf (getD (strings (decode ys)) i eps) ≤ lengthOf (getD (strings (decode ys)) m eps)
-      to b i m h l = ordered (strings (decode ys)) (second-strings .sorted) i m h l
+      to b i m h l = lengths-rise (strings (decode ys)) (second-strings .sorted) i m h l
 
   pub joining-of : {r : Bool} → SizesTold k ys r → r ≡ true → Joining k xs ys
   joining-of told e =

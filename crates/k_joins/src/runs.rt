@@ -318,7 +318,7 @@ fn next_class(
     }
 }
 
-// Goes on with member i: what is complete and ε have been seen to, and any other begins a class.
+// Goes on with member i: what is complete and ε have been seen to, and any other begins a class. Behind a member of k slots there are only such.
 fn join_part(
     out: &mut [u64],
     d: &mut [u64],
@@ -333,6 +333,12 @@ fn join_part(
     ensures cleared { λ _. ⌜ BlankCut (now (d .exit)) × BlankRun (now (r .exit)) ⌝ }
 {
     let x = member(xs, i);
+    if k <= slot_count(x) {
+        return Next {
+            full: false,
+            at: count(xs),
+        };
+    }
     if is_complete(x, k) {
         return Next {
             full: false,
