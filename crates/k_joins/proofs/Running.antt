@@ -23,7 +23,8 @@ use Rattle.k_tuples.proofs.Rising.{both, rising-addAll, length-addAll, addAll-a
 use Rattle.k_tuples.proofs.Words.{length-decode, rest-member, set-some, set-fits, decode-encode, length-encode, encode-is-set, encode-none, zeros-set}
 use Rattle.k_tuples.proofs.Inserting.{grown-full, grew-idle, gap-encode}
 use Rattle.k_tuples.proofs.Filling.{Way, Filling, grown-fits, grew-over, grew-fits, grew-length, grew-decode, grew-set}
-use Rattle.k_joins.specs.Parts.{between, cutOf, CutAdded, cutsOf, keepOf, keepsOf, followsOf, runOf, meetOf, meetsOf, leftOf, leftsOf, InClass, ClassTold, ClassEnd, Follows, AllFollow, AllPairs, Coded, BlankCut, BlankRun, RunPart, Gathered, ChunkEnd}
+use Rattle.k_joins.specs.Parts.{between, cutOf, CutAdded, KeptStep, cutsOf, keepOf, keepsOf, followsOf, runOf, meetOf, meetsOf, leftOf, leftsOf, InClass, ClassTold, ClassEnd, Follows, AllFollow, AllPairs, Coded, BlankCut, BlankRun, RunPart, Gathered, ChunkEnd}
+use Rattle.k_joins.specs.declared.runs.Next.{Next}
 use Rattle.k_joins.proofs.Adding.{addAll-most}
 
 -- ---- parts of a set
@@ -84,18 +85,18 @@ module _ {out exit : List ℕ} {m : Terminals} {g : Grown} {t : Bool} (y : Termi
   unfolding addAll
   cut-given r told e f h = record { told = g; grew = rw (sym at, sym told, e, sym f) h }
 
-  pub kept-given : (k : ℕ) → t ≡ completeIn k (reads m) → t ≡ true → Grew out exit (adding m (decode out)) g → Grew out exit (addAll (keepOf k y) (decode out)) g
+  pub kept-given : {full : Bool} {p : ℕ} (k : ℕ) → t ≡ completeIn k (reads m) → t ≡ true → Grew out exit (adding m (decode out)) g → full ≡ isFull g → KeptStep k y (record { full = full; at = p }) out exit
   unfolding addAll
-  kept-given k told e h = rw (sym at, sym told, e) h
+  kept-given k told e h f = record { told = g; full = f; grew = rw (sym at, sym told, e) h }
 
 module _ {out : List ℕ} {m : Terminals} {t : Bool} (y : Terminals) (at : m ≡ y) where
   pub no-cut : (r : ℕ) → t ≡ epsIn (reads m) → t ≡ true → IsSet out → CutAdded r y out out
   unfolding addAll
   no-cut r told e s = record { told = Same; grew = rw (sym at, sym told, e) (grew-idle s) }
 
-  pub not-kept : (k : ℕ) → t ≡ completeIn k (reads m) → t ≡ false → IsSet out → Grew out out (addAll (keepOf k y) (decode out)) Same
+  pub not-kept : {p : ℕ} (k : ℕ) → t ≡ completeIn k (reads m) → t ≡ false → IsSet out → KeptStep k y (record { full = false; at = p }) out out
   unfolding addAll
-  not-kept k told e s = rw (sym at, sym told, e) (grew-idle s)
+  not-kept k told e s = record { told = Same; full = refl; grew = rw (sym at, sym told, e) (grew-idle s) }
 
 -- ---- a set that takes what the members i to e of another give
 

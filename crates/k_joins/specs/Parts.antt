@@ -148,6 +148,12 @@ pub record CutAdded (r : ℕ) (y : Terminals) (ws ws′ : List ℕ) : Type 0 whe
   pub told : Grown
   pub grew : Grew ws ws′ (addAll (cutOf r y) (decode ws)) told
 
+-- x was added, if it is complete and there was room
+pub record KeptStep (k : ℕ) (x : Terminals) (s : Next) (ws ws′ : List ℕ) : Type 0 where
+  pub told : Grown
+  pub full : s .full ≡ isFull told
+  pub grew : Grew ws ws′ (addAll (keepOf k x) (decode ws)) told
+
 -- what a part of a set, of at most 127 members, gives has been gathered
 pub record Gathered (new : List Terminals) (ws : List ℕ) : Type 0 where
   pub is-set : IsSet ws

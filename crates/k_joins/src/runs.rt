@@ -10,7 +10,7 @@ ghost use Rattle.k_tuple.specs.Strings.{widthField, countField, slotsField};
 ghost use Rattle.k_tuple.specs.Packed.{WellFormed, number-of, reads, joined, cutIn};
 ghost use Rattle.k_tuples.specs.Members.{rising, addAll, pairsOf};
 ghost use Rattle.k_tuples.specs.Words.{memberAt, encode, decode, IsSet, Grew, AllJoinable, AllWellFormed};
-ghost use Rattle.k_joins.specs.Parts.{between, cutsOf, CutAdded, keepOf, keepsOf, followsOf, runOf, meetsOf, leftsOf, hasEps, stayOf, secondOf, Joining, InClass, ClassTold, ClassEnd, Follows, AllFollow, AllPairs, Coded, BlankCut, BlankRun, RunPart, Gathered, ChunkEnd, PartStep, SizesTold};
+ghost use Rattle.k_joins.specs.Parts.{between, cutsOf, CutAdded, KeptStep, keepsOf, followsOf, runOf, meetsOf, leftsOf, hasEps, stayOf, secondOf, Joining, InClass, ClassTold, ClassEnd, Follows, AllFollow, AllPairs, Coded, BlankCut, BlankRun, RunPart, Gathered, ChunkEnd, PartStep, SizesTold};
 use crate::pairs::join_plain;
 use k_tuple::Terminals;
 use k_tuple::parts::count as slot_count;
@@ -28,7 +28,6 @@ use k_tuples::set::clear_set;
 use k_tuples::set::count;
 use k_tuples::set::growth;
 use k_tuples::set::has;
-use k_tuples::set::insert;
 use k_tuples::set::insert_at;
 use k_tuples::set::is_full;
 use k_tuples::set::member;
@@ -389,16 +388,21 @@ fn has_eps(ys: &[u64]) -> bool
     has(ys, e)
 }
 
-// Adds member i of xs to out if it is complete.
-fn add_kept(out: &mut [u64], xs: &[u64], i: usize, k: u64) -> Grown
+// Adds member i of xs to out if it is complete. It is looked for behind member f first; tells whether there was no room, and where it stands.
+fn add_kept(out: &mut [u64], xs: &[u64], i: usize, k: u64, f: usize) -> Next
     requires { ⌜ IsSet (now out) × (IsSet (now xs) × ((i < length (decode (now xs))) × AllWellFormed (now xs))) ⌝ }
-    ensures { λ g. ⌜ Grew (now (out .entry)) (now (out .exit)) (addAll (keepOf k (memberAt (now (xs .entry)) (2 * i + 1))) (decode (now (out .entry)))) g ⌝ }
+    ensures { λ s. ⌜ KeptStep k (memberAt (now (xs .entry)) (2 * i + 1)) s (now (out .entry)) (now (out .exit)) ⌝ }
 {
     let x = member(xs, i);
     if is_complete(x, k) {
-        return insert(out, x);
+        let p = place_near(out, x, f);
+        let g = insert_at(out, p, x);
+        return Next {
+            full: is_full(g),
+            at: p,
+        };
     }
-    Grown::Same
+    Next { full: false, at: f }
 }
 
 // Adds the members of xs that are complete to out.
@@ -409,10 +413,13 @@ fn keep_into(out: &mut [u64], xs: &[u64], k: u64) -> Grown
     let old = count(out);
     let n = count(xs);
     let mut i = 0;
+    let mut f = 0;
     while i < n {
-        if is_full(add_kept(out, xs, i, k)) {
+        let s = add_kept(out, xs, i, k, f);
+        if s.full {
             return Grown::Full;
         }
+        f = s.at;
         i += 1;
     }
     growth(old, out)

@@ -11,8 +11,14 @@ member-requires c κs = search needs
 is-complete-requires : tie.Need-is-complete-requires
 is-complete-requires c κs = search well-formed-at
 
-insert-requires : tie.Need-insert-requires
-insert-requires c κs = search needs
+place-near-requires : tie.Need-place-near-requires
+place-near-requires c κs = search needs
+
+insert-at-requires : tie.Need-insert-at-requires
+insert-at-requires c κs = search needs
+
+is-full-requires : tie.Need-is-full-requires
+is-full-requires c κs = search needs
 
 same-length : tie.Need-same-length
 same-length c = search needs
@@ -26,4 +32,12 @@ returns-2 c = search not-kept
 pub add-kept-spec : {M : Type 1} → statement M
 add-kept-spec =
     tie.close
-    (tie.spec member-requires is-complete-requires insert-requires same-length returns returns-2)
+    (tie.spec
+    member-requires
+    is-complete-requires
+    place-near-requires
+    insert-at-requires
+    is-full-requires
+    same-length
+    returns
+    returns-2)

@@ -10,10 +10,10 @@ use Rattle.k_joins.proofs.runs.keep_into.Statement.{statement}
 use Rattle.k_joins.proofs.runs.keep_into.Tie as tie
 
 abbrev Inv-loop : tie.InvT-loop
-Inv-loop out₀ xs k old n i₀ out i = Filling (if-kept k) xs out₀ (addAll (keepsOf k (decode xs)) (decode out₀)) n old i out
+Inv-loop out₀ xs k old n i₀ f₀ out i f = Filling (if-kept k) xs out₀ (addAll (keepsOf k (decode xs)) (decode out₀)) n old i out
 
 abbrev μ-loop : tie.MeasureT-loop
-μ-loop out₀ xs k old n i₀ out i = n - i
+μ-loop out₀ xs k old n i₀ f₀ out i f = n - i
 
 count-requires : tie.Need-count-requires Inv-loop μ-loop
 count-requires c κs = search needs
@@ -26,9 +26,6 @@ loop-holds c = search fill-start
 
 add-kept-requires : tie.Need-add-kept-requires Inv-loop μ-loop
 add-kept-requires c κs = (search needs, (search needs, (search needs, search needs)))
-
-is-full-requires : tie.Need-is-full-requires Inv-loop μ-loop
-is-full-requires c κs = search needs
 
 same-length : tie.Need-same-length Inv-loop μ-loop
 same-length c = search needs
@@ -64,7 +61,6 @@ keep-into-spec =
     count-requires-2
     loop-holds
     add-kept-requires
-    is-full-requires
     same-length
     returns
     add-i
