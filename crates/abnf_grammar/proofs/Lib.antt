@@ -12,4 +12,6 @@ pub mod Blocks
 pub mod Productions
 pub mod Undefined
 pub mod Meanings
+pub mod Limits
+pub mod Looks
 pub mod Exercises

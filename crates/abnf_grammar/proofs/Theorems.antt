@@ -92,29 +92,29 @@ missing-number lefts k (from ∷ names) t n p e = by (among k lefts) (missing-nu
     by true f h = f h
     by false f h = let x : 19 ≡ n = cc in sym x
 
--- a refusal of the automaton is the table's, and 18 is only the automaton's
-scan-refuses : (text : List ℕ) (room n p : ℕ) → scanned text 0 text start ≡ refused n p → tableOf text room ≡ refused n p
+-- a refusal of the automaton is the table's, and one that is neither 10 nor 19 is the automaton's
+pub scan-refuses : (text : List ℕ) (room n p : ℕ) → scanned text 0 text start ≡ refused n p → tableOf text room ≡ refused n p
 unfolding tableOf readRules
 scan-refuses text room n p e = rw e
 
-table-scans : (text : List ℕ) (room p : ℕ) → tableOf text room ≡ refused 18 p → scanned text 0 text start ≡ refused 18 p
+pub table-scans : (text : List ℕ) (room n p : ℕ) → (n ≡ 10 → ⊥) → (n ≡ 19 → ⊥) → tableOf text room ≡ refused n p → scanned text 0 text start ≡ refused n p
 unfolding tableOf readRules
-table-scans text room p e = by (scanned text 0 text start) e
+table-scans text room n p x y e = by (scanned text 0 text start) e
   where
-    fit : (g : Grammar) (b : Bool) → pick b (on (writeTable g)) (refused 10 0) ≡ refused 18 p → ⊥
+    fit : (g : Grammar) (b : Bool) → pick b (on (writeTable g)) (refused 10 0) ≡ refused n p → ⊥
     fit g true h = let z : _≡_ {A = ℕ} 0 1 = cc in omega arith
-    fit g false h = let z : _≡_ {A = ℕ} 10 18 = cc in omega arith
+    fit g false h = let z : 10 ≡ n = cc in x (sym z)
 
     all : (t : Tables) (r : Run Tables) → missing (t .lefts) 0 (t .names) (on t) ≡ r
-        → ((r then λ u. on (grammarOf text u)) then λ g. pick (leb (length (writeTable g)) room) (on (writeTable g)) (refused 10 0)) ≡ refused 18 p → ⊥
+        → ((r then λ u. on (grammarOf text u)) then λ g. pick (leb (length (writeTable g)) room) (on (writeTable g)) (refused 10 0)) ≡ refused n p → ⊥
     all t (on u) h k = fit (grammarOf text u) (leb (length (writeTable (grammarOf text u))) room) k
-    all t (refused m q) h k = let x : m ≡ 19 = missing-number (t .lefts) 0 (t .names) t m q h in let y : m ≡ 18 = cc in omega arith
+    all t (refused m q) h k = let z : m ≡ 19 = missing-number (t .lefts) 0 (t .names) t m q h in let w : m ≡ n = cc in y (sym w ∙ z)
 
     by : (r : Run Tables)
-        → ((r then λ t. missing (t .lefts) 0 (t .names) (on t) then λ u. on (grammarOf text u)) then λ g. pick (leb (length (writeTable g)) room) (on (writeTable g)) (refused 10 0)) ≡ refused 18 p
-        → r ≡ refused 18 p
+        → ((r then λ t. missing (t .lefts) 0 (t .names) (on t) then λ u. on (grammarOf text u)) then λ g. pick (leb (length (writeTable g)) room) (on (writeTable g)) (refused 10 0)) ≡ refused n p
+        → r ≡ refused n p
     by (on t) h = absurd (all t (missing (t .lefts) 0 (t .names) (on t)) refl h)
-    by (refused m q) h = let x : m ≡ 18 = cc in let y : q ≡ p = cc in rw (x, y)
+    by (refused m q) h = let z : m ≡ n = cc in let w : q ≡ p = cc in rw (z, w)
 
 -- then the automaton refuses by 20 nowhere
 pub within-scan : (text : List ℕ) (p : ℕ) → Within text → ¬ (scanned text 0 text start ≡ refused 20 p)
@@ -123,7 +123,7 @@ within-scan text p w e = w p (rw e)
 
 -- a text of the subset is never refused by 18
 pub subset-accepted : (text : List ℕ) (room p : ℕ) → InSubset text → ¬ (tableOf text room ≡ refused 18 p)
-subset-accepted text room p s e = refused-twice text (s .0) p (s .1) (table-scans text room p e) (s .2)
+subset-accepted text room p s e = refused-twice text (s .0) p (s .1) (table-scans text room 18 p (λ z. absurd (omega arith)) (λ z. absurd (omega arith)) e) (s .2)
 
 -- a text that is not refused by 18, and that passes no limit, is one of the subset
 pub accepted-subset : (text : List ℕ) (room : ℕ) → Within text → ((p : ℕ) → ¬ (tableOf text room ≡ refused 18 p)) → InSubset text
