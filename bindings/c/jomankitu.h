@@ -25,6 +25,15 @@ uint64_t jomankitu_lookahead_sets(uint64_t k, uint64_t c, const uint8_t *table, 
 uint64_t jomankitu_needed_k(uint64_t limit, uint64_t c, const uint8_t *table, size_t table_len, uint64_t *result, size_t result_len,
                             uint64_t *scratch, size_t scratch_len, uint64_t *answer, size_t answer_len);
 
+/* The decision automata of a table's nonterminals, in turn, at the front of out: for each nonterminal the prefix tree of what a reader may have ahead, at
+   the k (up to limit) that it needs. In seven-bit groups, low group first, top bit set when another follows: the number of states; for each state its
+   production plus 1, 0 for none, the number of its transitions, and for each of these a terminal and the state that it leads to, always a later one.
+   A reader starts in state 0. c, result and scratch as above. Refusals: those of jomankitu_needed_k; then the lowest nonterminal's, 11 or 22; 23 if a tree
+   has more than 2,048 states; 10 if out is too short. On a refusal out is as it came; bytes behind the written ones are too. answer gets 1 word: how many
+   bytes are written. If there is none, it returns the refusal of this call with out, result and scratch of no elements and writes nothing at all. */
+uint64_t jomankitu_automata(uint64_t limit, uint64_t c, const uint8_t *table, size_t table_len, uint8_t *out, size_t out_len, uint64_t *result,
+                            size_t result_len, uint64_t *scratch, size_t scratch_len, uint64_t *answer, size_t answer_len);
+
 /* Where in a result of len words a set begins, and how many words it has; 0 and 0 if there is no such set, or len is less than the whole
    result needs. Kinds: 0 FIRST of nonterminals, 1 FIRST of productions, 2 FOLLOW of nonterminals, 3 positions. out gets 2 words. */
 uint64_t jomankitu_set_of(size_t len, size_t kind, size_t number, size_t n, size_t p, size_t q, size_t c, uint64_t *out, size_t out_len);

@@ -93,6 +93,22 @@ static int needed(void) {
     if (jomankitu_needed_k(2, C, two, sizeof two, result, WORDS, scratch, WORDS, told, 257) != 10 || result[0] != 7 || told[0] != 1) return 55;
     return jomankitu_needed_k(2, C, two, sizeof two - 1, result, WORDS, scratch, WORDS, told, 0) != 3 ? 56 : 0;
 }
+/* the trees of S -> 5 5 | 5 6, which needs 2, and of the listing's grammar: S needs 0, V takes 6 or the end */
+static int automata(void) {
+    static const uint8_t two[] = {1, 2, 0, 2, 0, 2, 11, 11, 0, 2, 11, 13};
+    static const uint8_t tree[] = {4, 0, 1, 5, 1, 0, 2, 5, 2, 6, 3, 1, 0, 2, 0}, trees[] = {1, 1, 0, 3, 0, 2, 0, 1, 6, 2, 3, 0, 2, 0};
+    static uint8_t bytes[16];
+    bytes[15] = 7;
+    if (jomankitu_automata(2, C, two, sizeof two, bytes, 16, result, WORDS, scratch, WORDS, out, 1) || out[0] != sizeof tree || bytes[15] != 7) return 60;
+    for (size_t i = 0; i < sizeof tree; i++) if (bytes[i] != tree[i]) return 61;
+    if (jomankitu_automata(2, C, table, sizeof table, bytes, 16, result, WORDS, scratch, WORDS, out, 1) || out[0] != sizeof trees) return 62;
+    for (size_t i = 0; i < sizeof trees; i++) if (bytes[i] != trees[i]) return 63;
+    bytes[0] = 9;
+    if (jomankitu_automata(2, C, two, sizeof two, bytes, 14, result, WORDS, scratch, WORDS, out, 1) != 10 || out[0] || bytes[0] != 9) return 64;
+    if (jomankitu_automata(1, C, two, sizeof two, bytes, 16, result, WORDS, scratch, WORDS, out, 1) != 22 || bytes[0] != 9) return 65;
+    result[0] = 7;
+    return jomankitu_automata(2, C, two, sizeof two, bytes, 16, result, WORDS, scratch, WORDS, out, 0) != 10 || bytes[0] != 9 || result[0] != 7 ? 66 : 0;
+}
 static int is_part(uint64_t (*part)(const uint8_t *, size_t, uint64_t, uint64_t *, size_t), const char *text, size_t size, uint64_t number,
                    uint64_t start, uint64_t length) {
     return !part((const uint8_t *)text, size, number, out, 2) && out[0] == start && out[1] == length;
@@ -118,6 +134,7 @@ int main(void) {
     int wrong = listing();
     if (!wrong) wrong = strings();
     if (!wrong) wrong = needed();
+    if (!wrong) wrong = automata();
     if (!wrong) wrong = of_sets();
     return wrong ? wrong : rules();
 }

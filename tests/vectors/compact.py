@@ -8,6 +8,7 @@ VECTORS has a row a line: operation | arguments | answer, its first line names t
   strings   width M, eps M, end M, make K M TERMINAL.., unpack LO HI, complete K LO HI, cut K LO HI, push LO HI X, order LO HI LO HI, join K LO HI LO HI
   sets      union, intersection, join: K ROOM | first | second;  disjoint: K | first | second;  complete: K | set
   needed    LIMIT C | the table's bytes, for rows limit | c | table | answer
+  automata  LIMIT C ROOM | the table's bytes, for rows limit | c | table | room in bytes | answer
 
 STDOUT gets the row's answer as it stands. Nothing here works an answer out: the width of a case `width M` is read off the answer to `eps M` or `end M`.
 Rows are left out that a request has replaced, and lists with a number that a terminal's type cannot hold; how many is
@@ -53,6 +54,11 @@ def set_case(op, args):
     return line(op, *head, *sets)
 
 
+def table_case(op, args):
+    limit, c, table, *room = args
+    return line(op, int(limit), int(c), *map(int, room), "|", *bytes.fromhex(table))
+
+
 def replaced(op, args, answer, of_sets):
     """Whether a row tells what the rule once was: that terminals behind an end marker are passed over in silence (a string made with fewer slots than the
     first k of its list, a push that gives the string itself), or that a set whose count is 0 is complete. The rows of requests K2 and K5 stand for such."""
@@ -77,13 +83,14 @@ def width_cases(rows):
 def main(vectors, stdin, stdout):
     with open(vectors, encoding="ascii") as f:
         header, *rows = [cells(row) for row in f if row.strip()]
-    of_sets, of_needs = header[1] == "k", header[0] == "limit"
-    if of_needs:
-        rows = [["needed", *row] for row in rows]
+    of_sets, of_tables = header[1] == "k", header[0] == "limit"
+    if of_tables:
+        op = "automata" if header[3] == "room in bytes" else "needed"
+        rows = [[op, *row] for row in rows]
     out, left = [], Counter()
     for op, *args, answer in rows:
-        if of_needs:
-            out.append((line(op, int(args[0]), int(args[1]), "|", *bytes.fromhex(args[2])), answer))
+        if of_tables:
+            out.append((table_case(op, args), answer))
             continue
         if replaced(op, args, answer, of_sets):
             left["replaced by a request (%s)" % op] += 1
@@ -93,7 +100,7 @@ def main(vectors, stdin, stdout):
             left["with a terminal over 65,535 in a made list"] += 1
         else:
             out.append(((set_case if of_sets else string_case)(op, args), answer))
-    widths = [] if of_sets or of_needs else width_cases(rows)
+    widths = [] if of_sets or of_tables else width_cases(rows)
     with open(stdin, "w", encoding="ascii") as f:
         f.writelines(case + "\n" for case, _ in out + widths)
     with open(stdout, "w", encoding="ascii") as f:

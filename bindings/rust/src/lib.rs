@@ -1,10 +1,13 @@
 //! Safe calls over the archive of `rt staticlib exports`, which is for x86-64 Linux. The archive tests everything that it is given and refuses by
 //! number, so these wrappers only turn slices into pointers and lengths, and answers into `Result`s; a refusal's number is the error.
 
+pub mod automaton;
+
 mod raw {
     unsafe extern "C" {
         pub fn jomankitu_lookahead_sets(k: u64, c: u64, table: *const u8, table_len: usize, result: *mut u64, result_len: usize, scratch: *mut u64, scratch_len: usize, answer: *mut u64, answer_len: usize) -> u64;
         pub fn jomankitu_needed_k(limit: u64, c: u64, table: *const u8, table_len: usize, result: *mut u64, result_len: usize, scratch: *mut u64, scratch_len: usize, answer: *mut u64, answer_len: usize) -> u64;
+        pub fn jomankitu_automata(limit: u64, c: u64, table: *const u8, table_len: usize, out: *mut u8, out_len: usize, result: *mut u64, result_len: usize, scratch: *mut u64, scratch_len: usize, answer: *mut u64, answer_len: usize) -> u64;
         pub fn jomankitu_set_of(len: usize, kind: usize, number: usize, n: usize, p: usize, q: usize, c: usize, out: *mut u64, out_len: usize) -> u64;
         pub fn jomankitu_read_abnf(text: *const u8, text_len: usize, table: *mut u8, table_len: usize, answer: *mut u64, answer_len: usize) -> u64;
         pub fn jomankitu_nonterminal_part(text: *const u8, text_len: usize, number: u64, out: *mut u64, out_len: usize) -> u64;
@@ -61,6 +64,12 @@ pub fn needed_k(limit: u64, c: u64, table: &[u8], result: &mut [u64], scratch: &
     let mut a = [0u64; 258];
     let number = unsafe { raw::jomankitu_needed_k(limit, c, table.as_ptr(), table.len(), result.as_mut_ptr(), result.len(), scratch.as_mut_ptr(), scratch.len(), a.as_mut_ptr(), a.len()) };
     answer(number, (0..a[1] as usize).map(|i| answer(a[2 + i], a[130 + i])).collect())
+}
+
+/// The automata of a table's nonterminals in turn, at the front of `out`; how many bytes they take. `automaton::Automaton` reads them.
+/// Both buffers are worked in.
+pub fn automata(limit: u64, c: u64, table: &[u8], out: &mut [u8], result: &mut [u64], scratch: &mut [u64]) -> Result<usize, Refusal> {
+    words::<1>(|o, n| unsafe { raw::jomankitu_automata(limit, c, table.as_ptr(), table.len(), out.as_mut_ptr(), out.len(), result.as_mut_ptr(), result.len(), scratch.as_mut_ptr(), scratch.len(), o, n) }).map(|w| w[0] as usize)
 }
 
 /// The kinds of sets, in the result's order.

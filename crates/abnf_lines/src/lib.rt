@@ -5,6 +5,7 @@ use crate::numbers::put_numbers;
 use crate::place::put_place;
 use lines::put;
 use lines::put_number;
+use lines::put_pairs;
 use lines::put_text;
 use lookahead::TableAnswer;
 use lookahead::read_abnf;
@@ -16,40 +17,12 @@ fn wide(x: u16) -> u64 {
     x as u64
 }
 
-fn byte(b: u8) -> u64 {
-    b as u64
-}
-
 // The first bytes of some; none, past the end.
 fn front(bytes: &[u8], end: usize) -> &[u8] {
     if bytes.len() < end {
         return &bytes[0..0];
     }
     &bytes[0..end]
-}
-
-// One byte as two digits.
-fn put_pair(out: &mut [u8], at: usize, b: u8) -> usize
-    requires { ⌜ Waits at (now out) ⌝ }
-    ensures { λ r. ⌜ Waits r (now (out .exit)) ⌝ }
-{
-    let mut digits = [0u8; 16];
-    let n = io::hex(byte(b), 2, &mut digits);
-    put_text(out, at, &digits[..n])
-}
-
-// A table as hexadecimal pairs, and the line's end.
-fn put_table(out: &mut [u8], at: usize, table: &[u8]) -> usize
-    requires { ⌜ Waits at (now out) ⌝ }
-    ensures { λ r. ⌜ Waits r (now (out .exit)) ⌝ }
-{
-    let mut next = at;
-    let mut i = 0;
-    while i < table.len() {
-        next = put_pair(out, next, table[i]);
-        i += 1;
-    }
-    put(out, next, b'\n')
 }
 
 // The place of a refusal; 10 has none.
@@ -81,7 +54,7 @@ pub fn put_answer(out: &mut [u8], at: usize, answer: TableAnswer, table: &[u8]) 
     ensures { λ r. ⌜ Waits r (now (out .exit)) ⌝ }
 {
     match answer {
-        TableAnswer::Written(n) => put_table(out, at, front(table, n)),
+        TableAnswer::Written(n) => put_pairs(out, at, front(table, n)),
         TableAnswer::Refused { number, place } => put_refusal(out, at, number, place),
     }
 }

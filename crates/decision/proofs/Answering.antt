@@ -26,7 +26,7 @@ use Rattle.engine.proofs.Wiping.{wiped-beyond}
 use Rattle.decision_theory.specs.Needed.{grammarFor}
 use Rattle.decision_theory.specs.Steps.{isOpen, standing}
 use Rattle.decision.specs.declared.Layout.{Layout}
-use Rattle.decision.specs.Steps.{held, past, Ready, Sized, grammarOf, OnTable, Given, SetsDone, Passing, Told, TriedAt, KDone, StandAt, AllDone, Sought}
+use Rattle.decision.specs.Steps.{held, past, Ready, Sized, grammarOf, OnTable, Given, SetsDone, Passing, Told, TriedAt, Beyond, KDone, StandAt, AllDone, Sought}
 use Rattle.decision.proofs.Trying.{passed-tried, sets-tried}
 
 -- ---- a table that was accepted
@@ -115,14 +115,19 @@ module _ {limit c : ℕ} {table : List ℕ} {u : Layout} {links result scratch :
         beyond = record { result-beyond = ap (drop N) r ∙ wiped-beyond N result; scratch-beyond = ap (drop M) s ∙ wiped-beyond M scratch };
       }
 
-  -- it was not: the sets stand in the result, and the scratch is zero
-  record Sets (a : Analysis) : Type 0 where
-    works : work k c g ≡ got a
-    stored : Stored k (a .width) (u .b) (setsOf a) (drop N result) result₁
-    many : u .sets ≡ length (setsOf a)
-    clean : scratch₁ ≡ wiped M scratch
+  -- what the definition works out is not refused
+  pub engine-works : (a : Analysis) → work k c g ≡ got a → l .refusal ≡ 0
+  unfolding answerOf
+  engine-works a w = let o : Outcome (got a) c N M result scratch l result₁ scratch₁ = rw w at outcome in ap (λ (x : Lookahead). x .refusal) (o .answer)
 
-  sets-stand : l .refusal ≡ 0 → (a : Analysis) × Sets a
+  -- it was not: the sets stand in the result, and the scratch is zero
+  pub record Sets (a : Analysis) : Type 0 where
+    pub works : work k c g ≡ got a
+    pub stored : Stored k (a .width) (u .b) (setsOf a) (drop N result) result₁
+    pub many : u .sets ≡ length (setsOf a)
+    pub clean : scratch₁ ≡ wiped M scratch
+
+  pub sets-stand : l .refusal ≡ 0 → (a : Analysis) × Sets a
   unfolding answerOf resultAfter scratchAfter
   sets-stand z = by (work k c g) refl outcome
     where
@@ -164,20 +169,29 @@ module _ {limit c : ℕ} {table : List ℕ} {u : Layout} {links result scratch :
     pub engine-block : length scratch₁ ≡ length scratch → u .b ≤ length scratch₁
     engine-block e = omega (arith, block-spare (given .sized), given .scratch-words)
 
-    pub engine-tried : {ρ κ ρ′ κ′ result₂ scratch₂ : List ℕ} → SetsDone u links k ρ κ ρ′ κ′ result₁ scratch₁ result₂ scratch₂ → KDone c g k ρ κ ρ′ κ′ result scratch result₂ scratch₂
-    engine-tried {result₂ = result₂} {scratch₂ = scratch₂} d =
+    -- the sets of the result are those of the analysis
+    pub engine-held : (a : Analysis) → Sets a → held u result₁ ≡ setsOf a
+    engine-held a s = ap (λ (n : ℕ). setsIn (u .b) n result₁) (s .many) ∙ stored-sets (s .stored)
+
+    -- the first block of the scratch was worked in, and the sets of the result
+    pub engine-beyond : {result₂ scratch₂ : List ℕ} → past u result₂ ≡ past u result₁ → drop (u .b) scratch₂ ≡ drop (u .b) scratch₁ → Beyond c g result scratch result₂ scratch₂
+    engine-beyond {result₂} {scratch₂} e f =
         let (a, s) = sets-stand z in
-        let R : held u result₁ ≡ setsOf a = ap (λ (n : ℕ). setsIn (u .b) n result₁) (s .many) ∙ stored-sets (s .stored) in
         let size = sized-needs (given .sized) in
         let rest : past u result₁ ≡ drop N result = ap (λ (n : ℕ). drop (n * u .b) result₁) (s .many) ∙ stored-rest (s .stored) in
         let far : u .b + (M - u .b) ≡ M = omega (arith, block-spare (given .sized)) in
         let behind : (ws : List ℕ) → drop M ws ≡ drop (M - u .b) (drop (u .b) ws) = λ ws. ap (λ (n : ℕ). drop n ws) (sym far) ∙ sym (drop-drop (M - u .b) (u .b) ws) in
         record {
-          tried = sets-tried c k g (table-ok (given .on)) k>0 (given .on .c>0) a (s .works) u (given .sized) links (given .sides) (rw R at (d .tried));
-          beyond = record {
-            result-beyond = ap (λ (n : ℕ). drop n result₂) (sym size) ∙ d .result-beyond ∙ rest;
-            scratch-beyond = behind scratch₂ ∙ ap (drop (M - u .b)) (d .scratch-beyond) ∙ sym (behind scratch₁) ∙ ap (drop M) (s .clean) ∙ wiped-beyond M scratch;
-          };
+          result-beyond = ap (λ (n : ℕ). drop n result₂) (sym size) ∙ e ∙ rest;
+          scratch-beyond = behind scratch₂ ∙ ap (drop (M - u .b)) f ∙ sym (behind scratch₁) ∙ ap (drop M) (s .clean) ∙ wiped-beyond M scratch;
+        }
+
+    pub engine-tried : {ρ κ ρ′ κ′ result₂ scratch₂ : List ℕ} → SetsDone u links k ρ κ ρ′ κ′ result₁ scratch₁ result₂ scratch₂ → KDone c g k ρ κ ρ′ κ′ result scratch result₂ scratch₂
+    engine-tried d =
+        let (a, s) = sets-stand z in
+        record {
+          tried = sets-tried c k g (table-ok (given .on)) k>0 (given .on .c>0) a (s .works) u (given .sized) links (given .sides) (rw (engine-held a s) at (d .tried));
+          beyond = engine-beyond (d .result-beyond) (d .scratch-beyond);
         }
 
 -- ---- one k after the other

@@ -145,12 +145,16 @@ module _ {limit c : ℕ} {table : List ℕ} (on : OnTable limit c table) {u : La
 
 -- ---- the grammar
 
+module _ {limit c : ℕ} {s : Shape} {words : List ℕ} (ready : Ready limit c s words) {u : Layout} (sized : Sized c (grammarIn s words) u) where
+  p-is : u .p ≡ s .p
+  p-is = sized .p ∙ length-productions (s .p) words
+
+  pub sides-requires : Sound 128 (u .p) words × (u .p ≤ 512)
+  sides-requires = rw p-is (sound-128 ready, productions-few ready)
+
 module _ {limit c : ℕ} {table : List ℕ} (on : OnTable limit c table) {s : Shape} {words : List ℕ} (ready : Ready limit c s words) (same : grammarOf table ≡ grammarIn s words) {u : Layout} (sized : Sized c (grammarIn s words) u) where
   pub sized-table : Sized c (grammarOf table) u
   sized-table = rw same sized
-
-  p-is : u .p ≡ s .p
-  p-is = sized .p ∙ length-productions (s .p) words
 
   pub sets-fit : u .sets * u .b ≤ 9966336
   sets-fit = mul-le-mul {n₁ = u .sets} {m₁ = u .b} {n₂ = 4864} {m₂ = 2049}
@@ -159,12 +163,9 @@ module _ {limit c : ℕ} {table : List ℕ} (on : OnTable limit c table) {s : Sh
   pub spare-fits : (2 * u .n + 4) * u .b ≤ 532740
   spare-fits = mul-le-mul {n₁ = 2 * u .n + 4} {m₁ = u .b} {n₂ = 260} {m₂ = 2049} (omega (arith, sized .n, ready .sizes .nonterminals)) (omega (arith, sized .b, on .c<1025))
 
-  pub sides-requires : Sound 128 (u .p) words × (u .p ≤ 512)
-  sides-requires = rw p-is (sound-128 ready, productions-few ready)
-
   pub given-all : {links : List ℕ} {result scratch : ℕ} → AllLinked (productionsOf (u .p) words) (u .p) links → u .sets * u .b ≤ result → (2 * u .n + 4) * u .b ≤ scratch → Given limit c table u links result scratch
   given-all {links} l enough spare =
-      let sides′ : SidesOf (grammarOf table .productions) links = rw (same, ← p-is) (l .sides) in
+      let sides′ : SidesOf (grammarOf table .productions) links = rw (same, ← p-is ready sized) (l .sides) in
       let g = grammarOf table in
       let sizes = accepted-sizes table g (on .next) (on .reads) in
       record {

@@ -7,4 +7,6 @@ pub mod Sizing
 pub mod Trying
 pub mod Answering
 pub mod Finishing
+pub mod Onward
+pub mod Going
 pub mod Kept

@@ -4,7 +4,7 @@ use native.Mathlib.Omega.{arith}
 use mathlib.Core.Path.{_≡_, refl, sym, ap, ap₂, _∙_, subst}
 use mathlib.Core.Logic.{_↔_}
 use mathlib.Core.Bool.{Bool, true, false, cond}
-use mathlib.Core.List.{List, _++_, map}
+use mathlib.Core.List.{List, [], _∷_, _++_, map, List·Memᴰ·head as here, List·Memᴰ·tail as there}
 use borrow.Author.Tests.{eqb-true, eqb-false}
 use lib.Dec.{eqb, T}
 use lib.ListN.{length, getD, take, drop}
@@ -15,6 +15,7 @@ use Rattle.k_tuples.specs.Sets.{_∈_, disjoint, joinSets}
 use Rattle.k_tuples.specs.States.{State, setOf}
 use Rattle.k_tuples.specs.Work.{Answer, got, refused}
 use Rattle.k_tuples.proofs.Tests.{passed, holds, unpassed}
+use Rattle.k_tuples.proofs.Work.{not-got, got-inj}
 use Rattle.blocks.specs.Stores.{Sets}
 use Rattle.analysis.specs.Analysis.{Analysis, work}
 use Rattle.analysis.specs.Promises.{Analysed}
@@ -28,7 +29,8 @@ use Rattle.decision_theory.proofs.Needed.{own-means, own-rising}
 use Rattle.decision_theory.proofs.Steps.{joinedAt, choiceAt, choices-fit, choices-over, apart-numbers}
 use Rattle.decision.specs.declared.Layout.{Layout}
 use Rattle.decision.specs.Own.{leftAt, SidesOf}
-use Rattle.decision.specs.Steps.{Sized, held, room, joinedOf, JoinedTo, JoinedAll, Apart, DecidedTo, Deciding, SetsTried, SetsDone, PassedTo, Passing, Told, afterK, TriedAt}
+use Rattle.decision.specs.Steps.{Sized, held, room, productionSet, joinedOf, JoinedTo, JoinedAll, Apart, DecidedTo, Deciding, SetsTried, SetsDone, PassedTo, Passing, Told, afterK, TriedAt}
+use Rattle.decision.specs.Onward.{choicesIn}
 
 -- ---- joined, and then decided
 
@@ -48,6 +50,11 @@ module _ {u : Layout} {links : List ℕ} {k : ℕ} {ρ ρ₁ result result₁ wo
   }
 
 -- ---- by the definition
+
+-- functions that agree on the members of a list
+map-same : {X Y : Type 0} (f h : X → Y) (xs : List X) → ((x : X) → x ∈ xs → f x ≡ h x) → map f xs ≡ map h xs
+map-same f h [] e = refl
+map-same f h (x ∷ xs) e = ap₂ _∷_ (e x (here refl)) (map-same f h xs (λ y m. e y (there m)))
 
 -- a k that is tried for an open one, by its choices
 module _ (c : ℕ) (g : Grammar) (A k : ℕ) (a : Analysis) where
@@ -155,6 +162,17 @@ module _ (c k : ℕ) (g : Grammar) (ok : Accepted g) (k>0 : 1 ≤ k) (c>0 : 1 �
                 let (m, r) = own-of j mj in
                 passed (sym (ap₂ disjoint (in-place i l q) (in-place j m r)) ∙ s i l q j (omega arith) m (r ∙ sym q))),
           )
+
+    -- where the definition has the choices xs, the sets in place are theirs
+    pub choices-in-place : (M : State) {old new : ℕ} (xs : List Choice) → choices c g A k a ≡ got xs → old ≡ 22 → JoinedTo u links k (u .p) A (setsOf a) M old new → xs ≡ choicesIn u g M A
+    choices-in-place M xs e z (JoinedTo.closed n f) = absurd (n z)
+    choices-in-place M xs e z (JoinedTo.over j l q big o f) =
+        not-got (sym (choices-over c k (a .productions) (a .follows) A (own g A) j (own-at j l q)
+        (subst (λ (J : List Str). c < length J) (joined-is j l q) (subst (λ (r : ℕ). r < length (joinedOf u links k (setsOf a) j)) room-is big))) ∙ e)
+    choices-in-place M xs e z (JoinedTo.fits o f all) =
+        got-inj (sym e ∙ chosen M all)
+        ∙ map-same (choiceAt c k (a .productions) (a .follows) A) (λ (i : ℕ). record { production = i; ahead = productionSet u M i }) (own g A)
+        (λ i m. let (l, q) = own-of i m in ap (λ (s : List Str). record { production = i; ahead = s }) (sym (in-place M all i l q)))
 
     module _ {ρ κ ρ′ κ′ : List ℕ} (t : SetsTried u links k (setsOf a) ρ κ ρ′ κ′) where
       sets-closed : ¬ getD ρ A 0 ≡ 22 → (getD ρ′ A 0 ≡ getD ρ A 0) × (getD κ′ A 0 ≡ getD κ A 0)

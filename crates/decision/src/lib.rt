@@ -20,6 +20,7 @@ use engine::Shape;
 use engine::lookahead_sets;
 use k_tuples::set::index;
 
+pub mod joined;
 mod joins;
 mod own;
 mod pairs;
@@ -140,7 +141,7 @@ fn try_all(
 }
 
 // The first words become zero.
-fn wipe(words: &mut [u64], needed: usize)
+pub fn wipe(words: &mut [u64], needed: usize)
     requires { ⌜ needed ≤ length (now words) ⌝ }
     ensures { λ _. ⌜ now (words .exit) ≡ wiped needed (now (words .entry)) ⌝ }
 {

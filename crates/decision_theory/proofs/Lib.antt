@@ -3,4 +3,8 @@ pub mod Ahead
 pub mod Needed
 pub mod Call
 pub mod Steps
+pub mod Tree
+pub mod Prefixes
+pub mod Automaton
+pub mod Bytes
 pub mod Kept

@@ -2,11 +2,11 @@
 use Prim.Native.Nat.{ℕ, zero, suc, _≤_, _<_}
 use native.Mathlib.Omega.{arith}
 use native.Mathlib.Decide.{decLt}
-use mathlib.Core.Path.{_≡_, refl, ap}
+use mathlib.Core.Path.{_≡_, refl, sym, ap}
 use mathlib.Core.Bool.{Bool, true, false, cond, _&&_}
 use mathlib.Core.Logic.{_↔_, inl, inr}
 use mathlib.Core.List.{List, [], _∷_, map, List·Memᴰ·head as here, List·Memᴰ·tail as there, List·Memᴰ·not-nil as not-nil, List·Memᴰ·eq-of-singleton as only}
-use lib.Dec.{T, leb, leb→le, le→leb}
+use lib.Dec.{T, leb, leb→le, le→leb, ltb, ltb→lt, lt→ltb, nltb→le}
 use lib.ListN.{length}
 use Rattle.cfg.specs.Grammar.{Grammar, Accepted}
 use Rattle.k_tuple.specs.Strings.{Str}
@@ -14,11 +14,11 @@ use Rattle.k_tuples.specs.Sets.{joinSets, _∈_, disjoint}
 use Rattle.k_tuples.specs.States.{State, setOf, Each}
 use Rattle.k_tuples.specs.Work.{Answer, got, refused, _>>=_, within}
 use Rattle.k_tuples.proofs.Sorted.{cases}
-use Rattle.k_tuples.proofs.Tests.{passed, fails, holds, and-left, and-right, and-both}
+use Rattle.k_tuples.proofs.Tests.{passed, failed, fails, holds, unpassed, and-left, and-right, and-both}
 use Rattle.k_tuples.proofs.Work.{Right, no-room, right}
 use Rattle.analysis.specs.Analysis.{work}
 use Rattle.decision_theory.specs.Needed.{choicesOf, Rising, Serves, OneProduction, own, Choice, ChoiceIs, apartFrom, apart, choicesAt, neededK, WorkedOut, NoneBelow, Answered, one-production, serves, passed-on, own-set, none-serves}
-use Rattle.decision_theory.specs.Steps.{begun, isOpen, triedAt, tried, standing}
+use Rattle.decision_theory.specs.Steps.{begun, isOpen, triedAt, tried, standing, atLeast}
 use Rattle.decision_theory.proofs.Needed.{own-means, own-rising, apart-means, Over, at-right, answered, answered-one}
 
 -- ---- k by k
@@ -142,3 +142,39 @@ module _ (c k : ℕ) (P F : State) (A : ℕ) where
             (λ p. cases k (λ (f : j ≡ n). let a = up .0 i p in absurd (omega arith)) (λ q. rest .0 (and-right (apartFrom (joinedAt n) (map choiceAt is)) (apart (map choiceAt is)) t) i j p q l)),
         λ h. and-both (apartFrom (joinedAt n) (map choiceAt is)) (apart (map choiceAt is)) (first .1 (λ j m. h n j (here refl) (there m) (up .0 j m))) (rest .1 (λ i j m k l. h i j (there m) (there k) l)),
       )
+
+-- ---- letters one after the other
+
+-- From 0 on are all.
+pub least-all : (ts : List ℕ) → atLeast 0 ts ≡ ts
+unfolding atLeast
+least-all [] = refl
+least-all (t ∷ ts) = rw (unpassed (ltb t 0) (λ p. omega (arith, ltb→lt t 0 p)))
+
+-- No member from f on.
+pub least-none : (f : ℕ) (ts : List ℕ) → ((u : ℕ) → u ∈ ts → u < f) → atLeast f ts ≡ []
+unfolding atLeast
+least-none f [] h = refl
+least-none f (t ∷ ts) h = rw (holds (ltb t f) (lt→ltb t f (h t (here refl)))) (least-none f ts (λ u m. h u (there m)))
+
+-- The least member from f on comes next, and the others are those above it.
+pub least-next : (f m : ℕ) (ts : List ℕ) → Rising ts → m ∈ ts → f ≤ m → ((u : ℕ) → u ∈ ts → f ≤ u → m ≤ u) → atLeast f ts ≡ m ∷ atLeast (suc m) ts
+unfolding atLeast
+least-next f m [] up i l h = absurd (not-nil i)
+least-next f m (t ∷ ts) up i l h = by (ltb t f) refl (least-next f m ts (up .1))
+  where
+    by : (b : Bool) → ltb t f ≡ b → (m ∈ ts → f ≤ m → ((u : ℕ) → u ∈ ts → f ≤ u → m ≤ u) → atLeast f ts ≡ m ∷ atLeast (suc m) ts)
+        → cond b (atLeast f ts) (t ∷ ts) ≡ m ∷ cond (ltb t (suc m)) (atLeast (suc m) ts) (t ∷ ts)
+    by true e rest =
+        let small = ltb→lt t f (passed e) in
+        rw (holds (ltb t (suc m)) (lt→ltb t (suc m) (omega arith)))
+        (rest (cases i (λ (q : m ≡ t). absurd (omega arith)) (λ n. n)) l (λ u n. h u (there n)))
+    by false e rest =
+        let big : f ≤ t = nltb→le t f (failed e) in
+        let most : m ≤ t = h t (here refl) big in
+        let same : m ≡ t = cases i (λ q. q) (λ n. let k = up .0 m n in absurd (omega arith)) in
+        rw (same, holds (ltb t (suc t)) (lt→ltb t (suc t) (omega arith))) (ap (λ (l : List ℕ). t ∷ l) (sym (above ts (up .0))))
+      where
+        above : (us : List ℕ) → ((j : ℕ) → j ∈ us → t < j) → atLeast (suc t) us ≡ us
+        above [] h = refl
+        above (u ∷ us) h = rw (unpassed (ltb u (suc t)) (λ p. let a = h u (here refl) in omega (arith, ltb→lt u (suc t) p)))

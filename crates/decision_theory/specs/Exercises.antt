@@ -16,7 +16,9 @@ use Rattle.first_theory.specs.Compute.{joinParts, rightSide, roundFrom, round, 
 use Rattle.follow_theory.specs.Equations.{start}
 use Rattle.follow_theory.specs.Follow.{joinFor, takeOne, takeAll, positionSets, follow}
 use Rattle.analysis.specs.Analysis.{work}
+use Rattle.cfg.specs.Write.{writeNumber}
 use Rattle.decision_theory.specs.Needed.{ownFrom, choicesOf, apartFrom, apart, choicesAt, tryFrom, decide, neededK, grammarFor, decisions, neededKs}
+use Rattle.decision_theory.specs.Automaton.{entriesOf, behind, put, letters, accepts, below, nodes, statesFrom, automaton, automataBytes, allDecided, allSmall, automata}
 
 -- S → 5 V; V → 6; V → nothing
 abbrev pub listing : List ℕ
@@ -38,7 +40,8 @@ never = 1 ∷ 2 ∷ 0 ∷ 3 ∷ 0 ∷ 2 ∷ 11 ∷ 0 ∷ 0 ∷ 3 ∷ 11 ∷ 0 �
 abbrev pub own-sets : List ℕ
 own-sets = 3 ∷ 4 ∷ 0 ∷ 6 ∷ 0 ∷ 4 ∷ 11 ∷ 11 ∷ 2 ∷ 15 ∷ 0 ∷ 4 ∷ 11 ∷ 11 ∷ 2 ∷ 17 ∷ 1 ∷ 1 ∷ 4 ∷ 1 ∷ 2 ∷ 11 ∷ 11 ∷ 2 ∷ 1 ∷ 11 ∷ 2 ∷ 1 ∷ 13 ∷ []
 
--- with 4,096 words lent for each of the engine's buffers
+-- ---- which k: with 4,096 words lent for each of the engine's buffers
+
 abbrev ks : ℕ → ℕ → List ℕ → Answer (List (Answer ℕ))
 ks limit c table = neededKs limit c table 4096 4096
 
@@ -79,4 +82,32 @@ needed = record {
   left-recursive = refl;
   enough-words = refl;
   few-words = refl;
+}
+
+-- ---- automata: the bytes of all nonterminals in turn
+
+abbrev trees : ℕ → ℕ → List ℕ → ℕ → Answer (List ℕ)
+trees limit c table room = automata limit c table 4096 4096 room
+
+pub record Trees : Type 0 where
+  -- nonterminal 0 by its one production; nonterminal 1 by the end marker and by 6
+  pub of-listing : trees 2 8 listing 4096 ≡ got (1 ∷ 1 ∷ 0 ∷ 3 ∷ 0 ∷ 2 ∷ 0 ∷ 1 ∷ 6 ∷ 2 ∷ 3 ∷ 0 ∷ 2 ∷ 0 ∷ [])
+  pub of-fives : trees 3 8 fives 4096 ≡ got (3 ∷ 0 ∷ 2 ∷ 5 ∷ 1 ∷ 6 ∷ 2 ∷ 1 ∷ 0 ∷ 2 ∷ 0 ∷ [])
+  pub of-two : trees 2 8 two-ahead 4096 ≡ got (4 ∷ 0 ∷ 1 ∷ 5 ∷ 1 ∷ 0 ∷ 2 ∷ 5 ∷ 2 ∷ 6 ∷ 3 ∷ 1 ∷ 0 ∷ 2 ∷ 0 ∷ [])
+  pub just-room : trees 2 8 listing 14 ≡ trees 2 8 listing 4096
+  pub few-bytes : trees 2 8 listing 13 ≡ refused 10
+  -- the lowest nonterminal's refusal, before the number of states and the bytes are looked at
+  pub lowest : trees 2 3 own-sets 0 ≡ refused 22
+  pub cut-short : trees 3 8 (1 ∷ []) 0 ≡ refused 3
+
+pub trees-are : Trees
+unfolding work acceptTable testRefusal misses readTable productions symbols anyBelow closeRounds closeRound closeOne allMarked comesBack walk visit turn first levels level round roundFrom rightSide joinParts productionSets within settle sameSets sameSet insert union joinSets cmp cmpSlots follow takeAll takeOne joinFor positionSets start widthOf digitsIn member disjoint ownFrom choicesOf apartFrom apart choicesAt tryFrom decide grammarFor decisions entriesOf behind put letters accepts below nodes statesFrom automaton writeNumber automataBytes allDecided allSmall automata
+trees-are = record {
+  of-listing = refl;
+  of-fives = refl;
+  of-two = refl;
+  just-room = refl;
+  few-bytes = refl;
+  lowest = refl;
+  cut-short = refl;
 }

@@ -1,4 +1,5 @@
 pub mod Needed
+pub mod Automaton
 pub mod Steps
 pub mod Exercises
 pub mod Promises

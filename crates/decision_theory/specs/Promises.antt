@@ -1,15 +1,18 @@
--- What is promised of the definitions of K3. Each promise is a definition here, and a theorem of that type in proofs/Kept.antt. Assumes nothing.
+-- What is promised of the definitions of K3 and K6. Each promise is a definition here, and a theorem of that type in proofs/Kept.antt. Assumes nothing.
 use Prim.Native.Nat.{ℕ, suc, _≤_, _<_}
 use mathlib.Core.Path.{_≡_}
 use mathlib.Core.Bool.{true}
 use mathlib.Core.Logic.{_↔_}
-use mathlib.Core.List.{List, [], _++_}
-use lib.ListN.{length}
+use mathlib.Core.List.{List, [], _++_, map}
+use lib.ListN.{length, getD}
 use Rattle.cfg.specs.Grammar.{Word, Grammar, Accepted}
+use Rattle.cfg.specs.Write.{Bytes, Limits}
 use Rattle.k_tuple.specs.Strings.{complete}
+use Rattle.k_tuples.specs.Sets.{_∈_}
 use Rattle.k_tuples.specs.Work.{Answer, got, refused}
 use Rattle.first_theory.specs.Compute.{str}
-use Rattle.decision_theory.specs.Needed.{Of, Ahead, Serves, OneProduction, Needs, neededK, WorkedOut, NoneBelow, NotWorkedOut, neededKs, CallAnswered}
+use Rattle.decision_theory.specs.Needed.{Of, Ahead, Serves, OneProduction, Needs, Decided, RightFor, neededK, WorkedOut, NoneBelow, NotWorkedOut, Reads, neededKs, CallAnswered}
+use Rattle.decision_theory.specs.Automaton.{State, automaton, AutomatonOf, automatonNumbers, automataBytes, AllAre, AllSmall, automata, AutomataAnswered}
 
 -- ---- the answers
 
@@ -72,3 +75,58 @@ NoneBegins = (g : Grammar) → Accepted g → (k : ℕ) → 1 ≤ k → (i j : �
 abbrev pub JoinedApart : Type 0
 JoinedApart = (g : Grammar) → Accepted g → (k : ℕ) → 1 ≤ k → (A : ℕ) → Serves g k A → (i j : ℕ) → Of g A i → Of g A j
     → (u x : Word) → Ahead g k i u → Ahead g k j (u ++ x) → (x ≡ []) × (i ≡ j)
+
+-- ---- the automata
+
+-- Every input is answered as the rules say.
+abbrev pub AutomataAll : Type 0
+AutomataAll = (limit c : ℕ) (table : List ℕ) (result scratch room : ℕ) → AutomataAnswered limit c table result scratch room (automata limit c table result scratch room)
+
+-- There is one such answer.
+abbrev pub AutomataOne : Type 0
+AutomataOne = (limit c : ℕ) (table : List ℕ) (result scratch room : ℕ) (x : Answer (List ℕ))
+    → AutomataAnswered limit c table result scratch room x → x ≡ automata limit c table result scratch room
+
+-- For each nonterminal of the table's grammar, what K3 decides is right, and its automaton is that of its joined sets.
+pub record RightAutomata (table : List ℕ) (ds : List Decided) : Type 0 where
+  pub g : Grammar
+  pub reads : Reads table g
+  pub accepted-grammar : Accepted g
+  pub one-each : length ds ≡ g .n
+  pub decided : (A : ℕ) (d : Decided) → A < g .n → RightFor g A (getD ds A d)
+  pub automata-of : (A : ℕ) (d : Decided) → A < g .n → AutomatonOf g A (getD ds A d) (automaton (getD ds A d))
+
+-- So it is whenever all are decided.
+abbrev pub AutomataRight : Type 0
+AutomataRight = (limit c : ℕ) (table : List ℕ) (result scratch : ℕ) (ds : List Decided) → AllAre limit c table result scratch ds → RightAutomata table ds
+
+-- ---- their bytes
+
+-- Every number of an automaton fits two groups of seven bits.
+abbrev pub Fits : List State → Type 0
+Fits S = (v : ℕ) → v ∈ automatonNumbers S → v < 16384
+
+-- So it is for what is decided, where the tree has at most 2,048 states.
+abbrev pub NumbersFit : Type 0
+NumbersFit = (g : Grammar) → Accepted g → Limits g → (A : ℕ) (d : Decided) → RightFor g A d → length (automaton d) ≤ 2048 → Fits (automaton d)
+
+-- The bytes of automata whose numbers fit determine how many there are, and each of them.
+abbrev pub BytesDetermine : Type 0
+BytesDetermine = (Ss Ts : List (List State)) → ((S : List State) → S ∈ Ss → Fits S) → ((T : List State) → T ∈ Ts → Fits T)
+    → automataBytes Ss ≡ automataBytes Ts → Ss ≡ Ts
+
+-- The automata of a call that writes them.
+pub record Writes (table : List ℕ) (Ss : List (List State)) : Type 0 where
+  pub limit : ℕ
+  pub c : ℕ
+  pub result : ℕ
+  pub scratch : ℕ
+  pub ds : List Decided
+  pub bytes : Bytes table
+  pub decided : AllAre limit c table result scratch ds
+  pub small : AllSmall ds
+  pub are : Ss ≡ map automaton ds
+
+-- So two calls, of whatever tables, that write the same bytes have the same automata.
+abbrev pub WrittenDetermine : Type 0
+WrittenDetermine = (table other : List ℕ) (Ss Ts : List (List State)) → Writes table Ss → Writes other Ts → automataBytes Ss ≡ automataBytes Ts → Ss ≡ Ts

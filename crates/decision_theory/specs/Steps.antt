@@ -1,8 +1,8 @@
--- K3 by the steps that a program takes: one k after the other, for all nonterminals. Assumes nothing.
+-- K3 and K6 by the steps that a program takes: one k after the other, for all nonterminals; letters one after the other. Assumes nothing.
 use Prim.Native.Nat.{ℕ, zero, suc}
 use mathlib.Core.Bool.{Bool, false, cond}
 use mathlib.Core.List.{List, [], _∷_}
-use lib.Dec.{eqb}
+use lib.Dec.{eqb, ltb}
 use Rattle.cfg.specs.Grammar.{Grammar}
 use Rattle.k_tuples.specs.Work.{Answer, got, refused, _>>=_}
 use Rattle.analysis.specs.Analysis.{Analysis, work}
@@ -32,3 +32,10 @@ tried c g A k m = triedAt k (m >>= λ a. choicesOf c k (a .productions) (a .foll
 unfoldable pub standing : (c : ℕ) (g : Grammar) (A k : ℕ) → Answer ℕ
 standing c g A zero = begun (own g A)
 standing c g A (suc k) = let before = standing c g A k in cond (isOpen before) (tried c g A (suc k) (work (suc k) c g)) before
+
+-- ---- K6
+
+-- The members of a rising list from f on.
+unfoldable pub atLeast : ℕ → List ℕ → List ℕ
+atLeast f [] = []
+atLeast f (t ∷ ts) = cond (ltb t f) (atLeast f ts) (t ∷ ts)

@@ -1,1 +1,1 @@
-// Which k a grammar needs, as definitions and theorems. No program code.
+// Which k a grammar needs and the readers' decision automata, as definitions and theorems. No program code.

@@ -4,3 +4,4 @@ pub mod Calling
 pub mod One
 pub mod RulesTold
 pub mod Needing
+pub mod AutomataCalled

@@ -2,17 +2,14 @@
 use Prim.Native.Nat.{ℕ, _+_, _-_, _≤_, _<_}
 use native.Mathlib.Omega.{arith}
 use mathlib.Core.Path.{_≡_, refl, sym, ap, ap₂, _∙_}
-use mathlib.Core.List.{List, [], _∷_, _++_, map, append-assoc, append-nil}
+use mathlib.Core.List.{List, [], _∷_, _++_, append-assoc, append-nil}
 use borrow.Author.Tests.{lt-ltb, le-ltb}
-use lib.ListN.{length, take, drop, replicate, length-append, length-drop, length-map, length-replicate}
+use lib.ListN.{length, take, drop, length-append, length-drop}
 use lib.Seq.{drop-drop, drop-at, length-take-le, take-length, drop-length}
 use Rattle.decision.specs.declared.Needed.{Needed}
-use Rattle.decision.specs.Call.{refusalOf, kOf, padded, recordOf, Promised}
-use Rattle.decision_theory.specs.Needed.{neededKs, Reads, CallAnswered}
-use Rattle.decision_theory.proofs.Kept.{needed-answered}
-use Rattle.cfg.specs.Grammar.{Grammar}
-use Rattle.cfg.proofs.Sizes.{table-sizes}
-use Rattle.k_tuples.specs.Work.{Answer}
+use Rattle.decision.specs.Call.{recordOf, Promised}
+use Rattle.decision.proofs.Going.{lists-long}
+use Rattle.decision_theory.specs.Needed.{neededKs}
 use Rattle.exports.specs.Told.{fronted}
 use Rattle.exports.specs.Needed.{neededWords, recordFor, PutAt, PutRecord, NeededCalled}
 
@@ -56,31 +53,15 @@ record-put a (x ∷ y ∷ ws) h l p q r = record {
 
 -- ---- the call
 
--- numbers for at most 128 nonterminals are filled up to 128
-padded-long : (xs : List ℕ) → length xs ≤ 128 → length (padded xs) ≡ 128
-padded-long xs h = length-append xs (replicate (128 - length xs) 0) ∙ ap (λ (n : ℕ). length xs + n) (length-replicate {A = ℕ} (128 - length xs) 0) ∙ omega arith
-
 module _ (limit c : ℕ) (table result scratch : List ℕ) {R S : List ℕ} {a : Needed} (p : Promised limit c table result scratch a R S) where
-  long : (length (a .refusals) ≡ 128) × (length (a .ks) ≡ 128)
-  unfolding recordOf
-  long = by (neededKs limit c table (length result) (length scratch)) (p .answer) (needed-answered limit c table (length result) (length scratch))
-    where
-      few : {g : Grammar} → Reads table g → (ks : List (Answer ℕ)) → length ks ≡ g .n → (f : Answer ℕ → ℕ) → length (map f ks) ≤ 128
-      few {g} (next, e) ks n f = omega (arith, table-sizes table g next e .nonterminals, n, length-map ks f)
-
-      by : (m : Answer (List (Answer ℕ))) → a ≡ recordOf m → CallAnswered limit c table (length result) (length scratch) m → (length (a .refusals) ≡ 128) × (length (a .ks) ≡ 128)
-      by m e (CallAnswered.bad-limit h) = rw e (length-replicate {A = ℕ} 128 0, length-replicate {A = ℕ} 128 0)
-      by m e (CallAnswered.as-engine h b f) = rw e (length-replicate {A = ℕ} 128 0, length-replicate {A = ℕ} 128 0)
-      by m e (CallAnswered.each-answered {g = g} {ks = ks} h hc reads ok words n each) =
-          rw e (padded-long (map refusalOf ks) (few reads ks n refusalOf), padded-long (map kOf ks) (few reads ks n kOf))
-
   pub refusals-long : length (a .refusals) ≡ 128
-  refusals-long = long .0
+  refusals-long = lists-long limit c table result scratch a p .0
 
   pub ks-long : length (a .ks) ≡ 128
-  ks-long = long .1
+  ks-long = lists-long limit c table result scratch a p .1
 
-nothing : (l : List ℕ) → length l ≡ 0 → (r : List ℕ) → l ++ r ≡ r
+-- words that are none before others
+pub nothing : (l : List ℕ) → length l ≡ 0 → (r : List ℕ) → l ++ r ≡ r
 nothing [] e r = refl
 nothing (x ∷ l) e r = absurd (omega arith)
 

@@ -3,3 +3,4 @@ pub mod Call
 pub mod Pairs
 pub mod Rules
 pub mod Needed
+pub mod Automata

@@ -12,6 +12,7 @@ use k_tuples::set::copy_front;
 use lookahead::Lookahead;
 use lookahead::lookahead_sets;
 
+pub mod automata;
 pub mod needed;
 pub mod rules;
 pub mod sets;

@@ -14,9 +14,13 @@ mod sets;
 mod text;
 
 pub use needed::put_needed;
+pub use positions::Read;
+pub use positions::number;
+pub use sets::put_slots;
 pub use text::flush;
 pub use text::put;
 pub use text::put_number;
+pub use text::put_pairs;
 pub use text::put_text;
 
 fn index(x: u64) -> usize {
@@ -28,7 +32,7 @@ fn wide(x: u16) -> u64 {
 }
 
 // A refusal, and nothing else.
-fn put_refused(out: &mut [u8], at: usize, number: u64) -> usize
+pub fn put_refused(out: &mut [u8], at: usize, number: u64) -> usize
     requires { ⌜ Waits at (now out) ⌝ }
     ensures { λ r. ⌜ Waits r (now (out .exit)) ⌝ }
 {
@@ -138,7 +142,7 @@ fn put_table(out: &mut [u8], at: usize, k: u64, c: u64, table: &[u8]) -> usize
 }
 
 // What stands from a place on; nothing, past the end.
-fn rest(input: &[u8], at: usize) -> &[u8] {
+pub fn rest(input: &[u8], at: usize) -> &[u8] {
     if input.len() < at {
         return &input[0..0];
     }
@@ -153,11 +157,11 @@ fn refusal(answer: Answer) -> u64 {
 }
 
 // The two numbers before a table, both read before either is tested, and where it begins; or the refusal of one that cannot be read.
-struct Before {
-    refusal: u64,
-    first: u64,
-    second: u64,
-    next: usize,
+pub struct Before {
+    pub refusal: u64,
+    pub first: u64,
+    pub second: u64,
+    pub next: usize,
 }
 
 fn unread(number: u64) -> Before {
@@ -169,7 +173,7 @@ fn unread(number: u64) -> Before {
     }
 }
 
-fn read_before(input: &[u8]) -> Before {
+pub fn read_before(input: &[u8]) -> Before {
     let first = read_number(input, 0);
     let Answer::Got { value: one, next } = first else {
         return unread(refusal(first));

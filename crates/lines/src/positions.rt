@@ -17,13 +17,13 @@ struct Walk {
 }
 
 // A number of a table and the place behind it.
-struct Read {
-    value: u64,
-    next: usize,
+pub struct Read {
+    pub value: u64,
+    pub next: usize,
 }
 
 // The number at a place; where there is none, 0 and the same place.
-fn number(table: &[u8], place: usize) -> Read {
+pub fn number(table: &[u8], place: usize) -> Read {
     let answer = read_number(table, place);
     match answer {
         Answer::Got { value, next } => Read {

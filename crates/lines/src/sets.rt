@@ -38,7 +38,7 @@ fn put_parted(out: &mut [u8], at: usize, i: usize) -> usize
 }
 
 // The slots that are used.
-fn put_slots(out: &mut [u8], at: usize, slots: &[u16], used: u64) -> usize
+pub fn put_slots(out: &mut [u8], at: usize, slots: &[u16], used: u64) -> usize
     requires { ⌜ Waits at (now out) ⌝ }
     ensures { λ r. ⌜ Waits r (now (out .exit)) ⌝ }
 {

@@ -44,3 +44,31 @@ pub fn put_number(out: &mut [u8], at: usize, number: u64) -> usize
     let n = io::decimal(number, &mut digits);
     put_text(out, at, &digits[..n])
 }
+
+fn byte(b: u8) -> u64 {
+    b as u64
+}
+
+// One byte as two digits.
+fn put_pair(out: &mut [u8], at: usize, b: u8) -> usize
+    requires { ⌜ Waits at (now out) ⌝ }
+    ensures { λ r. ⌜ Waits r (now (out .exit)) ⌝ }
+{
+    let mut digits = [0u8; 16];
+    let n = io::hex(byte(b), 2, &mut digits);
+    put_text(out, at, &digits[..n])
+}
+
+// Bytes as hexadecimal pairs, and the line's end.
+pub fn put_pairs(out: &mut [u8], at: usize, bytes: &[u8]) -> usize
+    requires { ⌜ Waits at (now out) ⌝ }
+    ensures { λ r. ⌜ Waits r (now (out .exit)) ⌝ }
+{
+    let mut next = at;
+    let mut i = 0;
+    while i < bytes.len() {
+        next = put_pair(out, next, bytes[i]);
+        i += 1;
+    }
+    put(out, next, b'\n')
+}

@@ -60,3 +60,9 @@ pub use engine::lookahead_sets;
 pub use decision::Needed;
 // The smallest k up to a limit at which the productions of each nonterminal can be told apart, in the same two slices of words.
 pub use decision::needed_k;
+
+// ---- the automata by which a reader picks its production
+// What the call answers: a refusal or 0, and how many bytes are written.
+pub use automaton::answer::Automata;
+// The prefix tree of each nonterminal's joined strings at the k that it needs, in lent bytes.
+pub use automaton::automata;

@@ -7,8 +7,9 @@ use libc::STDOUT_FILENO;
 use replay::decimal;
 use replay::read_column;
 use replay::told;
-
-const MARK: u8 = 0x55;
+use replay_tables::MARK_BYTE;
+use replay_tables::kept;
+use replay_tables::pairs;
 
 // What the line before a text says.
 struct Case {
@@ -27,36 +28,8 @@ fn head(line: &[u8]) -> Case {
     }
 }
 
-// Whether all bytes from a place on are marks.
-fn all_marks(bytes: &[u8], from: usize) -> bool {
-    let mut i = from;
-    while i < bytes.len() {
-        if bytes[i] != MARK {
-            return false;
-        }
-        i += 1;
-    }
-    true
-}
-
 fn wide(x: u16) -> u64 {
     x as u64
-}
-
-fn byte(b: u8) -> u64 {
-    b as u64
-}
-
-// The first bytes of a table as pairs; as many as there are.
-fn pairs(table: &[u8], count: usize) {
-    let mut i = 0;
-    while i < table.len() {
-        if count <= i {
-            return;
-        }
-        io::print_hex(STDOUT_FILENO, byte(table[i]), 2);
-        i += 1;
-    }
 }
 
 // A refusal and its place; 10 has none.
@@ -66,13 +39,6 @@ fn refused(number: u16, place: u16) {
     if number != 10 {
         io::write_all(STDOUT_FILENO, b" at ");
         decimal(wide(place));
-    }
-}
-
-// Every byte behind the table, and on a refusal every byte, is as it came.
-fn kept(table: &[u8], written: usize) {
-    if !all_marks(table, written) {
-        told(b"lent bytes changed");
     }
 }
 
@@ -102,7 +68,7 @@ fn answer(text: &[u8], table: &mut [u8], room: usize) -> bool {
 }
 
 fn run(text: &[u8], room: usize) -> bool {
-    let mut table = [MARK; 4096];
+    let mut table = [MARK_BYTE; 4096];
     answer(text, &mut table, room)
 }
 

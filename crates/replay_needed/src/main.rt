@@ -1,6 +1,5 @@
 // Runs stored cases of `needed_k`, a case a line: the limit and c, then the bytes of the table. Prints for each nonterminal its k, or r and its refusal,
 // or the refusal of the whole call. Both buffers are full of marks before a call, so that words left as they came are seen.
-ghost use Rattle.io.specs.Counts.{Counts};
 use libc::STDIN_FILENO;
 use libc::STDOUT_FILENO;
 use lookahead::Needed;
@@ -12,31 +11,9 @@ use replay::read_column;
 use replay::readable;
 use replay::refused;
 use replay::told;
-
-const MARK: u64 = 0x5555_5555_5555_5555;
-
-// Where the words that are x end, at the front.
-fn front(ws: &[u64], x: u64) -> usize
-    ensures { λ r. ⌜ Counts r (now (ws .entry)) ⌝ }
-{
-    let mut i = 0;
-    while i < ws.len() {
-        if ws[i] != x {
-            return i;
-        }
-        i += 1;
-    }
-    i
-}
-
-// Whether the words are zeros and then marks: none of one, or none of the other, where they should not be.
-fn wiped(ws: &[u64], some: bool) -> bool {
-    let n = front(ws, 0);
-    if some != (0 < n) {
-        return false;
-    }
-    n + front(&ws[n..], MARK) == ws.len()
-}
+use replay_tables::MARK;
+use replay_tables::narrowed;
+use replay_tables::wiped;
 
 // What is told of one nonterminal, behind a blank if it is not the first.
 fn told_one(i: usize, refusal: u64, k: u64) {
@@ -83,25 +60,6 @@ fn answer(limit: u64, c: u64, table: &[u8]) {
     if !wiped(&result, some) || !wiped(&scratch, some) {
         told(b"lent words changed");
     }
-}
-
-// Copies numbers into bytes, up to the first that is none, and answers how many.
-fn narrowed(xs: &[u64], into: &mut [u8]) -> usize
-    ensures { λ r. ⌜ Counts r (now (into .exit)) ⌝ }
-{
-    let mut i = 0;
-    while i < into.len() {
-        if xs.len() <= i {
-            break;
-        }
-        let x = xs[i];
-        if 255 < x {
-            break;
-        }
-        into[i] = x as u8;
-        i += 1;
-    }
-    i
 }
 
 // Runs a case; false where its numbers are none.

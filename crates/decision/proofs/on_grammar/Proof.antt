@@ -33,7 +33,7 @@ returns-2 : tie.Need-returns-2
 returns-2 c = let s = c .before .before .before .before .before .before .before .before .before .before .before .pre in let z = c .before .before .before .before .before .before .layout-of .ensures in let t = sized-table (s .0 .1) (s .0 .0) (s .1) z in scratch-short (s .0 .1) t _ _ (c .before .before .before .before .if1 .left) (c .before .if2 .taken) (c .refused2 .ensures)
 
 link-all-requires : tie.Need-link-all-requires
-link-all-requires c κs = let s = c .before .before .before .before .before .before .before .before .before .before .pre in let z = c .before .before .before .before .before .layout-of .ensures in sides-requires (s .0 .1) (s .0 .0) (s .1) z
+link-all-requires c κs = let s = c .before .before .before .before .before .before .before .before .before .before .pre in let z = c .before .before .before .before .before .layout-of .ensures in sides-requires (s .0 .0) z
 
 answer-all-requires : tie.Need-answer-all-requires
 answer-all-requires c κs = let s = c .before .before .before .before .before .before .before .before .before .before .before .before .before .before .pre in let z = c .before .before .before .before .before .before .before .before .before .layout-of .ensures in given-all (s .0 .1) (s .0 .0) (s .1) z (c .before .before .before .link-all .ensures) (c .before .before .before .before .before .before .before .if1 .left) (c .before .before .before .before .if2 .left)

@@ -1,0 +1,3 @@
+pub mod Call
+pub mod Steps
+pub mod Promises

@@ -1,0 +1,11 @@
+pub mod Reading
+pub mod Ordering
+pub mod Arranging
+pub mod Looking
+pub mod Growing
+pub mod Walking
+pub mod Building
+pub mod Writing
+pub mod Meaning
+pub mod Kept
+pub mod Collecting
