@@ -34,6 +34,15 @@ uint64_t jomankitu_needed_k(uint64_t limit, uint64_t c, const uint8_t *table, si
 uint64_t jomankitu_automata(uint64_t limit, uint64_t c, const uint8_t *table, size_t table_len, uint8_t *out, size_t out_len, uint64_t *result,
                             size_t result_len, uint64_t *scratch, size_t scratch_len, uint64_t *answer, size_t answer_len);
 
+/* Marks a hand-written prediction table against the joined sets of jomankitu_needed_k. A row is four words: a nonterminal, the two words of a string, which
+   must be made for the greatest terminal t + 5, and the production that is to be taken on it; rows come in any order, and rows_len counts words.
+   Accepted (0) where for every nonterminal with more than one production the rows give each of its strings its one production, and hold nothing else.
+   Refusals: those of jomankitu_needed_k; then the lowest nonterminal's, 11 or 22; 24 for a bad row; 25 for a missing string. c, result and scratch as
+   above. answer gets 4 words: for 24 the number of the first bad row, from 0; for 25, behind a 0, the nonterminal of the first missing string and its two
+   words; else zeros. If those are too few, it returns the refusal of this call with result and scratch of no words and writes nothing at all. */
+uint64_t jomankitu_mark(uint64_t limit, uint64_t c, const uint8_t *table, size_t table_len, const uint64_t *rows, size_t rows_len, uint64_t *result,
+                        size_t result_len, uint64_t *scratch, size_t scratch_len, uint64_t *answer, size_t answer_len);
+
 /* Where in a result of len words a set begins, and how many words it has; 0 and 0 if there is no such set, or len is less than the whole
    result needs. Kinds: 0 FIRST of nonterminals, 1 FIRST of productions, 2 FOLLOW of nonterminals, 3 positions. out gets 2 words. */
 uint64_t jomankitu_set_of(size_t len, size_t kind, size_t number, size_t n, size_t p, size_t q, size_t c, uint64_t *out, size_t out_len);

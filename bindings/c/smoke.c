@@ -109,6 +109,22 @@ static int automata(void) {
     result[0] = 7;
     return jomankitu_automata(2, C, two, sizeof two, bytes, 16, result, WORDS, scratch, WORDS, out, 0) != 10 || bytes[0] != 9 || result[0] != 7 ? 66 : 0;
 }
+/* the rows of S -> 5 5 | 5 6: right ones, the productions changed, one twice, one missing */
+static int mark(void) {
+    static const uint8_t two[] = {1, 2, 0, 2, 0, 2, 11, 11, 0, 2, 11, 13};
+    enum { FIVE_FIVE = 0x55, FIVE_SIX = 0x65 }; /* at width 4 */
+    const uint64_t high = 0x4200000000000000u;
+    const uint64_t right[] = {0, FIVE_SIX, high, 1, 0, FIVE_FIVE, high, 0}, wrong[] = {0, FIVE_SIX, high, 1, 0, FIVE_FIVE, high, 1};
+    const uint64_t twice[] = {0, FIVE_SIX, high, 1, 0, FIVE_FIVE, high, 0, 0, FIVE_SIX, high, 1};
+    if (jomankitu_mark(2, C, two, sizeof two, right, 8, result, WORDS, scratch, WORDS, out, 4) || out[0] || out[1] || out[2] || out[3]) return 70;
+    if (jomankitu_mark(2, C, two, sizeof two, wrong, 8, result, WORDS, scratch, WORDS, out, 4) != 24 || out[0] != 1 || out[2]) return 71;
+    if (jomankitu_mark(2, C, two, sizeof two, twice, 12, result, WORDS, scratch, WORDS, out, 4) != 24 || out[0] != 2) return 72;
+    if (jomankitu_mark(2, C, two, sizeof two, right, 4, result, WORDS, scratch, WORDS, out, 4) != 25 || out[0] || out[1] || out[2] != FIVE_FIVE || out[3] != high) return 73;
+    if (jomankitu_mark(2, C, two, sizeof two, right, 7, result, WORDS, scratch, WORDS, out, 4) != 24 || out[0] != 1) return 74;
+    if (jomankitu_mark(1, C, two, sizeof two, right, 8, result, WORDS, scratch, WORDS, out, 4) != 22 || out[0] || out[2]) return 75;
+    result[0] = 7;
+    return jomankitu_mark(2, C, two, sizeof two, right, 8, result, WORDS, scratch, WORDS, out, 3) != 10 || result[0] != 7 ? 76 : 0;
+}
 static int is_part(uint64_t (*part)(const uint8_t *, size_t, uint64_t, uint64_t *, size_t), const char *text, size_t size, uint64_t number,
                    uint64_t start, uint64_t length) {
     return !part((const uint8_t *)text, size, number, out, 2) && out[0] == start && out[1] == length;
@@ -135,6 +151,7 @@ int main(void) {
     if (!wrong) wrong = strings();
     if (!wrong) wrong = needed();
     if (!wrong) wrong = automata();
+    if (!wrong) wrong = mark();
     if (!wrong) wrong = of_sets();
     return wrong ? wrong : rules();
 }

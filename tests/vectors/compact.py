@@ -9,6 +9,7 @@ VECTORS has a row a line: operation | arguments | answer, its first line names t
   sets      union, intersection, join: K ROOM | first | second;  disjoint: K | first | second;  complete: K | set
   needed    LIMIT C | the table's bytes, for rows limit | c | table | answer
   automata  LIMIT C ROOM | the table's bytes, for rows limit | c | table | room in bytes | answer
+  mark      LIMIT C | the table's bytes | four words for each row, for rows limit | c | table | nonterminal:terminals:production .. | answer
 
 STDOUT gets the row's answer as it stands. Nothing here works an answer out: the width of a case `width M` is read off the answer to `eps M` or `end M`.
 Rows are left out that a request has replaced, and lists with a number that a terminal's type cannot hold; how many is
@@ -54,9 +55,43 @@ def set_case(op, args):
     return line(op, *head, *sets)
 
 
+def bits(m):
+    """How many bits a slot takes, where m is the greatest terminal: all of them 1 is no terminal."""
+    return (m + 1).bit_length()
+
+
+def words(terminals, m):
+    """The two words of a string: its slots, the first one lowest, and at the top the width and the length."""
+    value = sum(x << bits(m) * i for i, x in enumerate(terminals))
+    value |= (bits(m) << 124) | (len(terminals) << 120)
+    return value & (1 << 64) - 1, value >> 64
+
+
+def greatest(table):
+    """The greatest terminal of a table: its second number says how many there are. One that has none is refused whatever the rows are."""
+    values, low = [], None
+    for b in table:
+        if low is not None:
+            values.append(low + 128 * b)
+            low = None
+        elif b < 128:
+            values.append(b)
+        else:
+            low = b - 128
+    return min(values[1] + 5, 4094) if len(values) > 1 else 5
+
+
 def table_case(op, args):
-    limit, c, table, *room = args
-    return line(op, int(limit), int(c), *map(int, room), "|", *bytes.fromhex(table))
+    limit, c, table, *more = args
+    table = bytes.fromhex(table)
+    head = [int(limit), int(c)]
+    if op == "automata":
+        return line(op, *head, int(more[0]), "|", *table)
+    if op == "needed":
+        return line(op, *head, "|", *table)
+    rows = [] if more[0] == "-" else [row.split(":") for row in more[0].split()]
+    m = greatest(table)
+    return line(op, *head, "|", *table, "|", *(x for a, ts, p in rows for x in (int(a), *words(numbers(ts, 10), m), int(p))))
 
 
 def replaced(op, args, answer, of_sets):
@@ -85,7 +120,7 @@ def main(vectors, stdin, stdout):
         header, *rows = [cells(row) for row in f if row.strip()]
     of_sets, of_tables = header[1] == "k", header[0] == "limit"
     if of_tables:
-        op = "automata" if header[3] == "room in bytes" else "needed"
+        op = {"room in bytes": "automata", "rows nonterminal:terminals:production": "mark"}.get(header[3], "needed")
         rows = [[op, *row] for row in rows]
     out, left = [], Counter()
     for op, *args, answer in rows:

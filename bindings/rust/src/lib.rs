@@ -8,6 +8,7 @@ mod raw {
         pub fn jomankitu_lookahead_sets(k: u64, c: u64, table: *const u8, table_len: usize, result: *mut u64, result_len: usize, scratch: *mut u64, scratch_len: usize, answer: *mut u64, answer_len: usize) -> u64;
         pub fn jomankitu_needed_k(limit: u64, c: u64, table: *const u8, table_len: usize, result: *mut u64, result_len: usize, scratch: *mut u64, scratch_len: usize, answer: *mut u64, answer_len: usize) -> u64;
         pub fn jomankitu_automata(limit: u64, c: u64, table: *const u8, table_len: usize, out: *mut u8, out_len: usize, result: *mut u64, result_len: usize, scratch: *mut u64, scratch_len: usize, answer: *mut u64, answer_len: usize) -> u64;
+        pub fn jomankitu_mark(limit: u64, c: u64, table: *const u8, table_len: usize, rows: *const u64, rows_len: usize, result: *mut u64, result_len: usize, scratch: *mut u64, scratch_len: usize, answer: *mut u64, answer_len: usize) -> u64;
         pub fn jomankitu_set_of(len: usize, kind: usize, number: usize, n: usize, p: usize, q: usize, c: usize, out: *mut u64, out_len: usize) -> u64;
         pub fn jomankitu_read_abnf(text: *const u8, text_len: usize, table: *mut u8, table_len: usize, answer: *mut u64, answer_len: usize) -> u64;
         pub fn jomankitu_nonterminal_part(text: *const u8, text_len: usize, number: u64, out: *mut u64, out_len: usize) -> u64;
@@ -70,6 +71,36 @@ pub fn needed_k(limit: u64, c: u64, table: &[u8], result: &mut [u64], scratch: &
 /// Both buffers are worked in.
 pub fn automata(limit: u64, c: u64, table: &[u8], out: &mut [u8], result: &mut [u64], scratch: &mut [u64]) -> Result<usize, Refusal> {
     words::<1>(|o, n| unsafe { raw::jomankitu_automata(limit, c, table.as_ptr(), table.len(), out.as_mut_ptr(), out.len(), result.as_mut_ptr(), result.len(), scratch.as_mut_ptr(), scratch.len(), o, n) }).map(|w| w[0] as usize)
+}
+
+/// A row of a prediction table: on this string ahead, this nonterminal takes this production. The string is made for the greatest terminal t + 5.
+#[derive(Clone, Copy, Debug, PartialEq, Eq)]
+pub struct Row {
+    pub nonterminal: u64,
+    pub string: Terminals,
+    pub production: u64,
+}
+
+/// What a prediction table is marked with.
+#[derive(Clone, Copy, Debug, PartialEq, Eq)]
+pub enum Mark {
+    Accepted,
+    /// The first bad row, from 0.
+    BadRow(usize),
+    /// The first missing string, by nonterminal and then string order.
+    Missing { nonterminal: u64, string: Terminals },
+}
+
+/// Marks a hand-written prediction table, its rows in any order. Both buffers are worked in.
+pub fn mark(limit: u64, c: u64, table: &[u8], rows: &[Row], result: &mut [u64], scratch: &mut [u64]) -> Result<Mark, Refusal> {
+    let rows: Vec<u64> = rows.iter().flat_map(|r| [r.nonterminal, r.string.0, r.string.1, r.production]).collect();
+    let mut a = [0u64; 4];
+    let number = unsafe { raw::jomankitu_mark(limit, c, table.as_ptr(), table.len(), rows.as_ptr(), rows.len(), result.as_mut_ptr(), result.len(), scratch.as_mut_ptr(), scratch.len(), a.as_mut_ptr(), a.len()) };
+    match number {
+        24 => Ok(Mark::BadRow(a[0] as usize)),
+        25 => Ok(Mark::Missing { nonterminal: a[1], string: Terminals(a[2], a[3]) }),
+        _ => answer(number, Mark::Accepted),
+    }
 }
 
 /// The kinds of sets, in the result's order.

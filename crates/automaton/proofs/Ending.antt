@@ -1,42 +1,26 @@
 -- The call's ways out: what is told, written and wiped is what the definition has. Assumes nothing.
-use Prim.Native.Nat.{ℕ, zero, suc, _+_, _*_, _<_}
+use Prim.Native.Nat.{ℕ, zero, suc, _+_, _<_}
 use native.Mathlib.Omega.{arith}
-use mathlib.Core.Path.{_≡_, refl, sym, ap, ap₂, _∙_, subst}
+use mathlib.Core.Path.{_≡_, refl, sym, ap, ap₂, _∙_}
 use mathlib.Core.List.{List, [], _∷_, _++_, map}
-use lib.ListN.{length, drop, replicate}
+use lib.ListN.{length, drop}
 use Rattle.k_tuples.specs.Work.{Answer, got, refused}
 use Rattle.analysis.specs.Analysis.{resultNeeds, scratchNeeds}
-use Rattle.engine.specs.Call.{wiped}
-use Rattle.engine.proofs.Wiping.{wiped-beyond}
-use Rattle.decision_theory.specs.Needed.{Decided, decide, neededKs, eachFrom}
+use Rattle.decision_theory.specs.Needed.{Decided, decide, eachFrom}
 use Rattle.decision_theory.specs.Automaton.{State, automaton, automataBytes, allDecided, automata}
 use Rattle.decision_theory.proofs.Automaton.{lowest-refused}
 use Rattle.decision.specs.declared.Layout.{Layout}
 use Rattle.decision.specs.declared.Needed.{Needed}
-use Rattle.decision.specs.Call.{wordsAfter, Promised as Answered}
+use Rattle.decision.specs.Call.{Promised as Answered}
 use Rattle.decision.specs.Steps.{grammarOf, Given}
-use Rattle.decision.specs.Onward.{firstRefusal, Known, Prepared}
-use Rattle.decision.proofs.Answering.{sized-needs, sized-spare, result-needed, scratch-needed}
+use Rattle.decision.specs.Onward.{firstRefusal, Wiped}
 use Rattle.decision.proofs.Onward.{needed-decided}
-use Rattle.decision.proofs.Going.{answersOf, Reached, Onward, onward, buffers-wiped, refused-whole, refused-one, goes-on}
+use Rattle.decision.proofs.Going.{answersOf, Onward, refused-whole, refused-one, goes-on}
+use Rattle.decision.proofs.Further.{wiped-on, how, call-known, call-reached, wiped-after}
 use Rattle.automaton.specs.declared.answer.Automata.{Automata}
 use Rattle.automaton.specs.Call.{recordOf, bytesAfter, Promised}
-use Rattle.automaton.specs.Steps.{tree, treeBy, Measured, Tells, Wrote, Wiped, answerFor, Done}
+use Rattle.automaton.specs.Steps.{tree, treeBy, Measured, Tells, Wrote, answerFor, Done}
 use Rattle.automaton.proofs.Counting.{told-refused, told-fits, sum-is}
-
--- ---- the buffers
-
--- what is wiped is what the engine needs
-pub wiped-both : {limit c : ℕ} {table : List ℕ} {u : Layout} {links : List ℕ} {m s : ℕ} {result scratch result′ scratch′ : List ℕ} → Given limit c table u links m s
-    → result′ ≡ wiped (u .sets * u .b) result → scratch′ ≡ wiped ((2 * u .n + 4) * u .b) scratch → Wiped c (grammarOf table) result scratch result′ scratch′
-wiped-both {result = result} {scratch = scratch} given e f = record {
-  result-words = e ∙ ap (λ (m : ℕ). wiped m result) (sized-needs (given .sized));
-  scratch-words = f ∙ ap (λ (m : ℕ). wiped m scratch) (sized-spare (given .sized));
-}
-
--- words that were worked in are wiped as they came
-wiped-on : (N : ℕ) (ws ws₁ : List ℕ) {ws₂ : List ℕ} → drop N ws₁ ≡ drop N ws → ws₂ ≡ wiped N ws₁ → ws₂ ≡ wiped N ws
-wiped-on N ws ws₁ b e = e ∙ ap (λ (l : List ℕ). replicate N 0 ++ l) b
 
 -- ---- where every nonterminal is decided
 
@@ -89,14 +73,10 @@ decided-trees F i (suc n) h =
     (d ∷ ds, rw (f, q), ap₂ (λ (S : List State) (R : List (List State)). S ∷ R) (ap treeBy (sym f)) t)
 
 module _ (limit c : ℕ) (table result scratch result₁ scratch₁ : List ℕ) (d : Needed) (answers : Answered limit c table result scratch d result₁ scratch₁) {x : ℕ} (first : x ≡ firstRefusal (d .refusal) (d .refusals)) where
-  -- how the call goes on
-  how : Onward limit c table (length result) (length scratch) (d .ks) x
-  how = subst (Onward limit c table (length result) (length scratch) (d .ks)) (sym first) (onward limit c table result scratch d answers)
-
   -- a refusal of K3 is passed on
   pub call-refused : (out : List ℕ) → (x ≡ 0 → ⊥) → Promised limit c table out result scratch (record { refusal = x; bytes = 0 }) out result₁ scratch₁
   unfolding recordOf bytesAfter automata
-  call-refused out ne = by how
+  call-refused out ne = by (how limit c table result scratch result₁ scratch₁ d answers first)
     where
       by : Onward limit c table (length result) (length scratch) (d .ks) x → Promised limit c table out result scratch (record { refusal = x; bytes = 0 }) out result₁ scratch₁
       by (refused-whole n e) = record { answer = rw e refl; out-bytes = rw e refl; result-words = answers .result-words; scratch-words = answers .scratch-words }
@@ -106,49 +86,23 @@ module _ (limit c : ℕ) (table result scratch result₁ scratch₁ : List ℕ) 
       by (goes-on w z k) = absurd (ne z)
 
   module _ (z : x ≡ 0) where
-    -- without one every k is known,
-    pub call-known : Known limit c (grammarOf table) (d .ks)
-    call-known = by how
-      where
-        by : Onward limit c table (length result) (length scratch) (d .ks) x → Known limit c (grammarOf table) (d .ks)
-        by (refused-whole n e) = absurd (n z)
-        by (refused-one w n A l e low) = absurd (n z)
-        by (goes-on w q k) = k
-
-    -- the tests of the call are passed,
-    pub call-reached : Reached limit c table (length result) (length scratch)
-    call-reached = by how
-      where
-        by : Onward limit c table (length result) (length scratch) (d .ks) x → Reached limit c table (length result) (length scratch)
-        by (refused-whole n e) = absurd (n z)
-        by (refused-one w n A l e low) = absurd (n z)
-        by (goes-on w q k) = w
-
-    -- and the buffers are given with the plan
-    pub call-given : {u : Layout} {links : List ℕ} → Prepared limit c table u links → length result₁ ≡ length result → length scratch₁ ≡ length scratch → Given limit c table u links (length result₁) (length scratch₁)
-    call-given p e f = rw (e, f) (p .given (length result) (length scratch) (call-reached .result-words) (call-reached .scratch-words))
-
     -- the definition answers by the trees
     answer-is : (room : ℕ) → automata limit c table (length result) (length scratch) room ≡ answerFor room (eachFrom (tree limit c (grammarOf table)) 0 (grammarOf table .n))
     unfolding automata answerFor
     answer-is room =
         let F : ℕ → Answer Decided = λ A. decide c (grammarOf table) A limit in
-        let (ds, e, t) = decided-trees F 0 (grammarOf table .n) (λ j h. let y : 0 + j ≡ j = omega arith in let (d, q, p) = needed-decided c (grammarOf table) j limit _ (call-known .each j h) in (d, ap F y ∙ q)) in
-        rw (call-reached .called, e, t) refl
+        let (ds, e, t) = decided-trees F 0 (grammarOf table .n) (λ j h. let y : 0 + j ≡ j = omega arith in let (d, q, p) = needed-decided c (grammarOf table) j limit _ (call-known limit c table result scratch result₁ scratch₁ d answers first z .each j h) in (d, ap F y ∙ q)) in
+        rw (call-reached limit c table result scratch result₁ scratch₁ d answers first z .called, e, t) refl
 
     -- the outcome by the trees is that of the definition
     pub call-done : (out : List ℕ) {n : ℕ} {r : Automata} {out₂ result₂ scratch₂ : List ℕ} → n ≡ grammarOf table .n → Done limit c table n out result₁ scratch₁ r out₂ result₂ scratch₂ → Promised limit c table out result scratch r out₂ result₂ scratch₂
-    unfolding wordsAfter neededKs
     call-done out {n} {r} {out₂} e done =
-        let w = call-reached in
-        let (R, S) = buffers-wiped limit c table result scratch d answers w in
-        let N = resultNeeds c (grammarOf table) in
-        let M = scratchNeeds c (grammarOf table) in
+        let (R, S) = wiped-after limit c table result scratch result₁ scratch₁ d answers first z (record { result-words = done .result-words; scratch-words = done .scratch-words }) in
         let same : answerFor (length out) (eachFrom (tree limit c (grammarOf table)) 0 n) ≡ automata limit c table (length result) (length scratch) (length out) =
         ap (λ (m : ℕ). answerFor (length out) (eachFrom (tree limit c (grammarOf table)) 0 m)) e ∙ sym (answer-is (length out)) in
         record {
           answer = done .answer ∙ ap recordOf same;
           out-bytes = done .out-bytes ∙ ap (bytesAfter out) same;
-          result-words = rw (w .called, result-needed (w .on)) (wiped-on N result result₁ (ap (drop N) R ∙ wiped-beyond N result) (done .result-words));
-          scratch-words = rw (w .called, scratch-needed (w .on)) (wiped-on M scratch scratch₁ (ap (drop M) S ∙ wiped-beyond M scratch) (done .scratch-words));
+          result-words = R;
+          scratch-words = S;
         }

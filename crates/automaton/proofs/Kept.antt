@@ -4,15 +4,13 @@ use native.Mathlib.Omega.{arith}
 use mathlib.Core.Path.{_≡_, refl, sym, ap, _∙_}
 use mathlib.Core.Logic.{_⊎_, inl, inr, ⊎-elim}
 use mathlib.Core.List.{List, _++_, map}
-use lib.ListN.{length, getD, drop, length-map, List·getD-map}
+use lib.ListN.{length, drop}
 use Rattle.k_tuples.specs.Work.{Answer, got, refused}
-use Rattle.k_tuples.proofs.Work.{not-got}
-use Rattle.cfg.specs.Grammar.{Grammar}
-use Rattle.analysis.specs.Promises.{Between}
-use Rattle.decision_theory.specs.Needed.{Decided, onlyK, decisions, neededKs, Answered, one-production, serves, passed-on, own-set, none-serves, CallAnswered}
+use Rattle.decision_theory.specs.Needed.{Decided, decisions, neededKs}
 use Rattle.decision_theory.specs.Automaton.{automaton, automataBytes, AllAre, LowestRefused, AllSmall, automata, AutomataAnswered, call-refused, one-refused, too-many-states, few-bytes, written}
-use Rattle.decision_theory.proofs.Kept.{needed-answered, automata-all, automata-only, automata-right}
+use Rattle.decision_theory.proofs.Kept.{automata-all, automata-only, automata-right}
 use Rattle.decision.specs.Call.{wordsAfter}
+use Rattle.decision.proofs.Further.{whole-between, one-between}
 use Rattle.automaton.specs.declared.answer.Automata.{Automata}
 use Rattle.automaton.specs.Call.{recordOf, bytesAfter, Promised}
 use Rattle.automaton.specs.Promises.{AutomataOne, AutomataAnswers, WholePassed, LowestPassed, TwentyThreeExactly, TenExactly, NothingWritten, BuffersUntouched, BuffersWiped, WrittenRight, NotRefused}
@@ -28,39 +26,6 @@ automata-answers limit c table out result scratch r O R S p = record {
   told = p .answer;
   bytes = p .out-bytes;
 }
-
--- ---- which refusals K3 gives
-
-module _ (limit c : ℕ) (table : List ℕ) (result scratch : ℕ) where
-  -- of the whole call 1 to 10,
-  whole-between : (x : ℕ) → decisions limit c table result scratch ≡ refused x → Between 1 10 x
-  unfolding neededKs
-  whole-between x e = by (neededKs limit c table result scratch) (rw e refl) (needed-answered limit c table result scratch)
-    where
-      by : (m : Answer (List (Answer ℕ))) → m ≡ refused x → CallAnswered limit c table result scratch m → Between 1 10 x
-      by m q (CallAnswered.bad-limit n) = let z : _≡_ {A = ℕ} 1 x = cc in (omega arith, omega arith)
-      by m q (CallAnswered.as-engine {r = y} h b f) = let z : y ≡ x = cc in (omega (arith, b .0), omega (arith, b .1))
-      by m q (CallAnswered.each-answered h hc reads ok words size each) = not-got (sym q)
-
-  -- of a nonterminal 11 or 22.
-  one-between : (x : ℕ) → LowestRefused limit c table result scratch x → (x ≡ 11) ⊎ (x ≡ 22)
-  unfolding neededKs
-  one-between x low = by (neededKs limit c table result scratch) (rw (low .called) refl) (needed-answered limit c table result scratch)
-    where
-      kind : {g : Grammar} (y : Answer ℕ) → y ≡ refused x → Answered g c limit (low .A) y → (x ≡ 11) ⊎ (x ≡ 22)
-      kind y e (one-production o) = not-got (sym e)
-      kind y e (serves n h none w s) = not-got (sym e)
-      kind y e (passed-on n h none o) = let z : _≡_ {A = ℕ} 11 x = cc in inl (sym z)
-      kind y e (own-set n h none enough o) = let z : _≡_ {A = ℕ} 11 x = cc in inl (sym z)
-      kind y e (none-serves n none) = let z : _≡_ {A = ℕ} 22 x = cc in inr (sym z)
-
-      by : (m : Answer (List (Answer ℕ))) → m ≡ got (map onlyK (low .answers-of)) → CallAnswered limit c table result scratch m → (x ≡ 11) ⊎ (x ≡ 22)
-      by m q (CallAnswered.bad-limit n) = not-got q
-      by m q (CallAnswered.as-engine h b f) = not-got q
-      by m q (CallAnswered.each-answered {ks = ks} h hc reads ok words size each) =
-          let same : ks ≡ map onlyK (low .answers-of) = cc in
-          let long = ap length same ∙ length-map (low .answers-of) onlyK in
-          kind (getD ks (low .A) (refused 0)) (ap (λ (l : List (Answer ℕ)). getD l (low .A) (refused 0)) same ∙ List·getD-map onlyK (low .answers-of) (low .A) (refused 0) ∙ ap onlyK (low .refuses)) (each (low .A) (let i = low .inside in omega arith))
 
 -- ---- the outcome by the answer
 

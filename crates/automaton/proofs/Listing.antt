@@ -10,7 +10,7 @@ use borrow.Author.Tests.{eq-eqb, ne-eqb}
 use lib.ListN.{length, getD, drop, length-append, length-map, drop-of-length-le}
 use lib.Seq.{drop-cons}
 use Rattle.cfg.specs.Grammar.{Word, Grammar, Production, Accepted}
-use Rattle.k_tuple.specs.Strings.{Str, slots, isEps, good, decode, wellFormed, widthField, countField, slotsField}
+use Rattle.k_tuple.specs.Strings.{Str, slots, isEps, good, decode, wellFormed, widthOf, widthField, countField, slotsField}
 use Rattle.k_tuple.specs.Wide.{value}
 use Rattle.k_tuple.specs.Packed.{reads, terminalsIn}
 use Rattle.k_tuple.specs.declared.Terminals.{Terminals}
@@ -159,7 +159,7 @@ nothing-listed w list = record { width = w; room = omega arith; plain = λ j h. 
 -- the loop: m strings are listed, and those of the productions from i on are to come
 pub record Gathers (limit c : ℕ) (table : List ℕ) (u : Layout) (links : List ℕ) (k A : ℕ) (result : List ℕ) (size m i : ℕ) (list : List ℕ) : Type 0 where
   pub at : JoinedFor limit c k (grammarOf table) u A result
-  pub listed : SameWidth list m (at .width)
+  pub listed : SameWidth list m (widthOf (grammarOf table .t + 5))
   pub below : i ≤ u .p
   pub mine : i < u .p → leftAt links i ≡ A
   pub few : m ≤ 2048
@@ -179,7 +179,7 @@ module _ {limit c : ℕ} {table : List ℕ} {u : Layout} {links : List ℕ} {k A
       let first = first-of planned h in
       record {
         at = at;
-        listed = (nothing-listed (at .width) list, refl);
+        listed = (nothing-listed (widthOf (grammarOf table .t + 5)) list, refl);
         below = first .below;
         mine = first .here;
         few = omega arith;
@@ -214,12 +214,12 @@ module _ {limit c : ℕ} {table : List ℕ} {u : Layout} {links : List ℕ} {k A
       in-result = let w = planned .fit .whole in omega arith
 
       -- which holds its joined set,
-      set-holds : Holds k (l .at .width) (productionSet u (held u result) i) (partAt (u .b) (u .n + i) result)
+      set-holds : Holds k (widthOf (grammarOf table .t + 5)) (productionSet u (held u result) i) (partAt (u .b) (u .n + i) result)
       set-holds = part-holds (l .at .store .stored) (u .n + i) (in-sets (l .at .store) in-result)
 
       -- none of whose members is ε
       members-plain : (j : ℕ) → j < length (decodeSet (partAt (u .b) (u .n + i) result)) → Plain (l .listed .0 .width) (memberAt (partAt (u .b) (u .n + i) result) (2 * j + 1))
-      members-plain j b = subst (λ (w : ℕ). Plain w (memberAt (partAt (u .b) (u .n + i) result) (2 * j + 1))) (sym (l .listed .1)) (set-plain k (l .at .width) _ _ set-holds (not-eps planned h k>0 (l .at) i mine-own) j b)
+      members-plain j b = subst (λ (w : ℕ). Plain w (memberAt (partAt (u .b) (u .n + i) result) (2 * j + 1))) (sym (l .listed .1)) (set-plain k (widthOf (grammarOf table .t + 5)) _ _ set-holds (not-eps planned h k>0 (l .at) i mine-own) j b)
 
       -- so its members can be listed
       pub gathers-asks : Collect list m (partAt (u .b) (u .n + i) result) i
@@ -238,7 +238,7 @@ module _ {limit c : ℕ} {table : List ℕ} {u : Layout} {links : List ℕ} {k A
 
       -- the strings of production i are the next
       set-next : entriesFor i (decodeSet (partAt (u .b) (u .n + i) result)) ≡ entriesIn i (productionSet u (held u result) i)
-      set-next = set-entries k (l .at .width) _ _ set-holds i
+      set-next = set-entries k (widthOf (grammarOf table .t + 5)) _ _ set-holds i
 
       -- what is to come begins with them
       split : restFrom u (held u result) A (G .productions) i ≡ entriesFor i (decodeSet (partAt (u .b) (u .n + i) result)) ++ restFrom u (held u result) A (G .productions) (suc i)
@@ -289,7 +289,7 @@ module _ {limit c : ℕ} {table : List ℕ} {u : Layout} {links : List ℕ} {k A
                 let (o, w) = f (l .listed .0) members-plain in
                 record {
                   at = l .at;
-                  listed = subst (λ (j : ℕ). SameWidth list′ j (l .at .width)) n (o, w ∙ l .listed .1);
+                  listed = subst (λ (j : ℕ). SameWidth list′ j (widthOf (grammarOf table .t + 5))) n (o, w ∙ l .listed .1);
                   below = next .below;
                   mine = next .here;
                   few = omega arith;

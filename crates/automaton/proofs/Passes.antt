@@ -7,26 +7,20 @@ use mathlib.Core.List.{List, []}
 use borrow.Author.Count.{below-more}
 use lib.ListN.{length, getD, drop, set, replicate, length-set, length-replicate}
 use lib.Seq.{getD-set-same, getD-set-other}
-use Rattle.k_tuples.specs.Work.{Answer, got}
-use Rattle.decision_theory.specs.Needed.{neededK, Answered, one-production, serves, passed-on, own-set, none-serves}
+use Rattle.k_tuples.specs.Work.{got}
+use Rattle.decision_theory.specs.Needed.{neededK}
 use Rattle.decision_theory.specs.Automaton.{State}
-use Rattle.decision_theory.proofs.Needed.{answered}
-use Rattle.k_tuples.proofs.Work.{not-got, got-inj}
 use Rattle.trees.specs.Answer.{bytesOf}
 use Rattle.decision.specs.declared.Layout.{Layout}
 use Rattle.decision.specs.Steps.{grammarOf, Given, Beyond}
 use Rattle.decision.specs.Onward.{Known, KJoined}
-use Rattle.decision.proofs.Answering.{table-ok}
+use Rattle.decision.proofs.Further.{at-most-ten}
 use Rattle.automaton.specs.Steps.{tree, Planned, KStands, SizeIs, KMeasured, Measured, sumTo, Laid, Fitting, Parts, KWritten, Wrote}
 use Rattle.automaton.proofs.Placing.{laid-start, laid-all}
 
 -- what is given is planned
 pub planned : {limit c : ℕ} {table : List ℕ} {u : Layout} {links : List ℕ} {result scratch : ℕ} → Given limit c table u links result scratch → Planned limit c table u links
 planned given = record { on = given .on; sized = given .sized; fit = given .fit; sides = given .sides }
-
--- buffers of the same lengths are given too
-pub regiven : {limit c : ℕ} {table : List ℕ} {u : Layout} {links : List ℕ} {m n m′ n′ : ℕ} → Given limit c table u links m n → m′ ≡ m → n′ ≡ n → Given limit c table u links m′ n′
-regiven given e f = rw (e, f) given
 
 -- ---- the sets of one k
 
@@ -48,17 +42,6 @@ module _ {limit c : ℕ} {table : List ℕ} {u : Layout} {links ks : List ℕ} (
     all = record { each = λ A h e. record { needs = needs h e; joined = λ l. j .each A (omega (arith, given .sized .n)) e } };
     beyond = j .beyond;
   }
-
-  -- every k is at most 10
-  pub at-most-ten : (A : ℕ) → A < u .n → getD ks A 0 < 11
-  at-most-ten A h = by (neededK c (grammarOf table) A limit) (needs h refl) (answered (grammarOf table) (table-ok (given .on)) c (given .on .c>0) A limit)
-    where
-      by : (x : Answer ℕ) → x ≡ got (getD ks A 0) → Answered (grammarOf table) c limit A x → getD ks A 0 < 11
-      by x e (one-production o) = let q : 0 ≡ getD ks A 0 = got-inj e in omega arith
-      by x e (serves n b low w s) = let q = got-inj e in let l = b .1 in let t = given .on .limit<11 in omega arith
-      by x e (passed-on n b low o) = not-got e
-      by x e (own-set n b low enough o) = not-got e
-      by x e (none-serves n low) = not-got e
 
 -- ---- the sizes
 
@@ -159,7 +142,7 @@ module _ {limit c : ℕ} {table : List ℕ} {u : Layout} {links ks result₀ scr
   -- all are
   pub measuring-end : 11 ≤ k → Measured limit c table (u .n) result₀ scratch₀ sizes result scratch
   measuring-end h = record {
-    sized = record { each = λ A a. w .done A a (let t = at-most-ten result scratch (w .kept .given) (w .known) A a in omega arith); long = w .long };
+    sized = record { each = λ A a. w .done A a (let t = at-most-ten (w .kept .given .on) (w .known) A (omega (arith, w .kept .given .sized .n)) in omega arith); long = w .long };
     beyond = w .kept .beyond;
   }
 
@@ -208,6 +191,6 @@ module _ {limit c : ℕ} {table : List ℕ} {u : Layout} {links ks sizes out₀ 
   -- all are
   pub writing-end : 11 ≤ k → Wrote limit c table (u .n) sizes out₀ result₀ scratch₀ out result scratch
   writing-end h = record {
-    written = laid-all (tree limit c (grammarOf table)) (w .laid) (λ A a. w .done A a (let t = at-most-ten result scratch (w .kept .given) (w .known) A a in omega arith));
+    written = laid-all (tree limit c (grammarOf table)) (w .laid) (λ A a. w .done A a (let t = at-most-ten (w .kept .given .on) (w .known) A (omega (arith, w .kept .given .sized .n)) in omega arith));
     beyond = w .kept .beyond;
   }

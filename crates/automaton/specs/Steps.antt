@@ -153,11 +153,7 @@ pub record Wrote (limit c : ℕ) (table : List ℕ) (n : ℕ) (sizes out result 
 unfoldable pub answerFor : ℕ → List (List State) → Answer (List ℕ)
 answerFor room Ts = demand 23 (allSmall Ts) >> (demand 10 (leb (length (automataBytes Ts)) room) >> got (automataBytes Ts))
 
--- both buffers were wiped where they are needed
-pub record Wiped (c : ℕ) (g : Grammar) (result scratch result′ scratch′ : List ℕ) : Type 0 where
-  pub result-words : result′ ≡ wiped (resultNeeds c g) result
-  pub scratch-words : scratch′ ≡ wiped (scratchNeeds c g) scratch
-
+-- the outcome by the trees; both buffers were wiped where they are needed
 pub record Done (limit c : ℕ) (table : List ℕ) (n : ℕ) (out result scratch : List ℕ) (r : Automata) (out′ result′ scratch′ : List ℕ) : Type 0 where
   pub answer : r ≡ recordOf (answerFor (length out) (eachFrom (tree limit c (grammarOf table)) 0 n))
   pub out-bytes : out′ ≡ bytesAfter out (answerFor (length out) (eachFrom (tree limit c (grammarOf table)) 0 n))

@@ -5,7 +5,7 @@ ghost use lib.ListN.{length};
 ghost use Rattle.decision.specs.Steps.{Long, Given, grammarOf};
 ghost use Rattle.decision.specs.Onward.{Known};
 ghost use Rattle.automaton.specs.Call.{Promised};
-ghost use Rattle.automaton.specs.Steps.{tree, Planned, AllStand, KStands, KMeasured, Measured, Fitting, KWritten, Wrote, Wiped, Done};
+ghost use Rattle.automaton.specs.Steps.{tree, Planned, AllStand, KStands, KMeasured, Measured, Fitting, KWritten, Wrote, Done};
 use crate::answer::Automata;
 use crate::sizes::place_of;
 use crate::sizes::told;
@@ -15,8 +15,8 @@ use decision::Layout;
 use decision::joined::first_refusal;
 use decision::joined::join_k;
 use decision::joined::plan_of;
+use decision::joined::wipe_both;
 use decision::needed_k;
-use decision::wipe;
 
 pub mod answer;
 mod sizes;
@@ -147,23 +147,6 @@ fn write_all(
         write_k(k, limit, c, table, u, links, ks, result, sizes, out);
         k += 1;
     }
-}
-
-// Both buffers become zero where they were worked in.
-fn wipe_both(
-    limit: u64,
-    c: u64,
-    table: &[u8],
-    u: Layout,
-    links: &[usize; 1152],
-    result: &mut [u64],
-    scratch: &mut [u64],
-)
-    requires { ⌜ Given limit c (now table) u (now links) (length (now result)) (length (now scratch)) ⌝ }
-    ensures { λ _. ⌜ Wiped c (grammarOf (now (table .entry))) (now (result .entry)) (now (scratch .entry)) (now (result .exit)) (now (scratch .exit)) ⌝ }
-{
-    wipe(result, u.sets * u.b);
-    wipe(scratch, (2 * u.n + 4) * u.b);
 }
 
 // The automata of a table all of whose nonterminals are decided.

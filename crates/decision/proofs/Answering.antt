@@ -152,19 +152,18 @@ module _ {limit c : ℕ} {table : List ℕ} {u : Layout} {links result scratch :
     zeros-first (suc n) zero ws h = absurd (omega arith)
     zeros-first (suc n) (suc m) ws h = ap (λ (xs : List ℕ). 0 ∷ xs) (zeros-first n m ws (omega arith))
 
+    -- both hold sets of the grammar's width
+    pub engine-result : (a : Analysis) → Sets a → IsStored k (a .width) (u .b) (u .sets) result₁
+    engine-result a s = is-stored (s .stored) (u .sets) (s .many)
+
+    pub engine-work : (a : Analysis) → Sets a → IsStored k (a .width) (u .b) 1 (take (u .b) scratch₁)
+    engine-work a s =
+        subst (IsStored k (a .width) (u .b) 1)
+        (let o : 1 * u .b ≡ u .b = omega arith in ap (λ (n : ℕ). replicate n 0 ++ []) o ∙ append-nil (replicate (u .b) 0) ∙ sym (ap (take (u .b)) (s .clean) ∙ zeros-first (u .b) M (drop M scratch) (block-spare (given .sized))))
+        (zeros-are-stored k (a .width) (u .b) 1 [] (omega (arith, given .sized .b)))
+
     pub engine-ready : Ready u k result₁ (take (u .b) scratch₁)
-    engine-ready =
-        let (a, s) = sets-stand z in
-        record {
-          width = a .width;
-          result-store = is-stored (s .stored) (u .sets) (s .many);
-          work-store =
-              subst (IsStored k (a .width) (u .b) 1)
-              (let o : 1 * u .b ≡ u .b = omega arith in ap (λ (n : ℕ). replicate n 0 ++ []) o ∙ append-nil (replicate (u .b) 0) ∙ sym (ap (take (u .b)) (s .clean) ∙ zeros-first (u .b) M (drop M scratch) (block-spare (given .sized))))
-              (zeros-are-stored k (a .width) (u .b) 1 [] (omega (arith, given .sized .b)));
-          least = k>0;
-          most = k<11;
-        }
+    engine-ready = let (a, s) = sets-stand z in record { width = a .width; result-store = engine-result a s; work-store = engine-work a s; least = k>0; most = k<11 }
 
     pub engine-block : length scratch₁ ≡ length scratch → u .b ≤ length scratch₁
     engine-block e = omega (arith, block-spare (given .sized), given .scratch-words)

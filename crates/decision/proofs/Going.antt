@@ -149,11 +149,11 @@ one-some g ok c room A limit r e = by (neededK c g A limit) (ap onlyK e) (answer
 
 module _ {limit c : ℕ} {table : List ℕ} (on : OnTable limit c table) where
   -- the decision for A
-  answer-at : (A : ℕ) → A < grammarOf table .n → getD (answersOf limit c table) A (refused 0) ≡ decide c (grammarOf table) A limit
+  pub answer-at : (A : ℕ) → A < grammarOf table .n → getD (answersOf limit c table) A (refused 0) ≡ decide c (grammarOf table) A limit
   answer-at A h = let z : 0 + A ≡ A = omega arith in each-at (λ A. decide c (grammarOf table) A limit) (refused 0) 0 (grammarOf table .n) A h ∙ ap (λ (B : ℕ). decide c (grammarOf table) B limit) z
 
   -- one for each nonterminal
-  answers-length : length (answersOf limit c table) ≡ grammarOf table .n
+  pub answers-length : length (answersOf limit c table) ≡ grammarOf table .n
   answers-length = each-length (λ A. decide c (grammarOf table) A limit) 0 (grammarOf table .n)
 
   -- which are at most 128

@@ -45,18 +45,21 @@ module _ {u : Layout} {k : ℕ} {result work : List ℕ} (ready : Ready u k resu
       told b e = sym (full-grown (room u) 0 (length product)) ∙ ap isFull (sym (filled .answer)) ∙ e
 
       module _ (e : isFull r ≡ true) where
-        pub take-over : {work₂ : List ℕ} → length work₁ ≡ length work → work₂ ≡ replicate (length work₁) 0 → Taken u k at from true result result work₂
+        pub take-over : {work₂ : List ℕ} → length work₁ ≡ length work → work₂ ≡ replicate (length work₁) 0 → Taken u k at from true result work result work₂
         take-over {work₂} same z =
             let some = kept-at (setsIn (u .b) 1 work) 0 (ready .work-store .stored .kept) (in-sets (ready .work-store) (omega arith)) .room in
             let one : length work ≡ 1 * u .b + length (drop (1 * u .b) work) = rw (length-sets (u .b) 1 work) at (stored-length (ready .work-store .stored)) in
+            let cleared : (w : ℕ) → IsStored k w (u .b) 1 work₂ =
+            λ w. subst (IsStored k w (u .b) 1) (sym (z ∙ ap (λ (n : ℕ). replicate n 0) (same ∙ one) ∙ sym (replicate-append-replicate (1 * u .b) (length (drop (1 * u .b) work)) 0))) (zeros-are-stored k w (u .b) 1 (replicate (length (drop (1 * u .b) work)) 0) (omega arith)) in
             record {
               ready = record {
                 width = ready .width;
                 result-store = ready .result-store;
-                work-store = subst (IsStored k (ready .width) (u .b) 1) (sym (z ∙ ap (λ (n : ℕ). replicate n 0) (same ∙ one) ∙ sym (replicate-append-replicate (1 * u .b) (length (drop (1 * u .b) work)) 0))) (zeros-are-stored k (ready .width) (u .b) 1 (replicate (length (drop (1 * u .b) work)) 0) (omega arith));
+                work-store = cleared (ready .width);
                 least = ready .least;
                 most = ready .most;
               };
+              keeps = λ w s t. (s, cleared w);
               over = λ _. (ltb-true _ _ (told true e), refl);
               done = λ n. absurd (true≢false n);
               beyond = refl;
@@ -72,12 +75,16 @@ module _ {u : Layout} {k : ℕ} {result work : List ℕ} (ready : Ready u k resu
         there : setOf (setsIn (u .b) 1 work₁) 0 ≡ product
         there = ap (λ (F : State). setOf F 0) (turned-sets turned) ∙ getD-set-same (setsIn (u .b) 1 work) 0 product [] (in-sets (ready .work-store) (omega arith))
 
-        pub take-done : {result′ : List ℕ} → CopiedBlock (u .b) (u .sets) 1 0 at work₁ result result′ → Taken u k at from false result result′ work₁
+        pub take-done : {result′ : List ℕ} → CopiedBlock (u .b) (u .sets) 1 0 at work₁ result result′ → Taken u k at from false result work result′ work₁
         take-done {result′} c =
             let copied : Turned k (ready .width) (u .b) (u .sets) (set (held u result) at product) result result′ =
             rw there at (c .step k (ready .width) (ready .result-store) (turned-store turned)) in
             record {
               ready = record { width = ready .width; result-store = turned-store copied; work-store = turned-store turned; least = ready .least; most = ready .most };
+              keeps = λ w s t.
+                  let filled-at : Filled k w (u .b) 1 0 0 product r work work₁ = j .step w (setOf (held u result) at) (setOf (held u result) from) t (part-holds (s .stored) at (in-sets s h)) (part-holds (s .stored) from (in-sets s l)) in
+                  let second = turned-store (filled-turned filled-at e) in
+                  (turned-store (c .step k w s second), second);
               over = λ n. absurd (false≢true n);
               done = λ _. (ltb-false _ _ (told false e), turned-sets copied);
               beyond = turned-beyond copied;
@@ -89,7 +96,7 @@ module _ (u : Layout) (links : List ℕ) (k : ℕ) where
   -- the loop
   pub record Joins (i : ℕ) (result₀ work₀ ρ₀ result work ρ : List ℕ) : Type 0 where
     pub below : i ≤ u .p
-    pub so-far : JoinedAll u links k i ρ₀ ρ result₀ result work
+    pub so-far : JoinedAll u links k i ρ₀ ρ result₀ work₀ result work
     pub work-long : length work ≡ length work₀
 
   pub joins-start : (result work ρ : List ℕ) → Ready u k result work → Joins 0 result work ρ result work ρ
@@ -97,6 +104,7 @@ module _ (u : Layout) (links : List ℕ) (k : ℕ) where
     below = omega arith;
     so-far = record {
       ready = ready;
+      keeps = λ w s t. (s, t);
       joined = record { each = λ A l. by (getD ρ A 0) (eqb (getD ρ A 0) 22) refl; waiting = λ j l m. refl; follows = λ A l. refl; others = λ A l. refl; long = refl };
       beyond = refl;
     };
@@ -170,10 +178,10 @@ module _ (u : Layout) (links : List ℕ) (k : ℕ) (fit : Fit u links) where
             (λ q. (subst (λ (J : List Str). length J ≤ room u) same-joined small, getD-set-same R₁ (u .n + i) (joinedOf u links k R₁ i) [] (let t = fit .whole in omega arith) ∙ same-joined)))
 
   module _ {i : ℕ} {result₀ work₀ ρ₀ result work ρ : List ℕ} (w : Joins u links k i result₀ work₀ ρ₀ result work ρ) where
-    pub joins-more : {result′ work′ ρ′ : List ℕ} → i < u .p → length ρ₀ ≡ 128 → JoinedOne u links k i ρ ρ′ result result′ work′ → length work′ ≡ length work → Joins u links k (i + 1) result₀ work₀ ρ₀ result′ work′ ρ′
+    pub joins-more : {result′ work′ ρ′ : List ℕ} → i < u .p → length ρ₀ ≡ 128 → JoinedOne u links k i ρ ρ′ result work result′ work′ → length work′ ≡ length work → Joins u links k (i + 1) result₀ work₀ ρ₀ result′ work′ ρ′
     joins-more {result′} {work′} {ρ′} h m one l = record {
       below = omega arith;
-      so-far = record { ready = one .ready; joined = by (one .case); beyond = one .beyond ∙ w .so-far .beyond };
+      so-far = record { ready = one .ready; keeps = λ v s t. let p = w .so-far .keeps v s t in one .keeps v (p .0) (p .1); joined = by (one .case); beyond = one .beyond ∙ w .so-far .beyond };
       work-long = l ∙ w .work-long;
     }
       where
@@ -185,8 +193,8 @@ module _ (u : Layout) (links : List ℕ) (k : ℕ) (fit : Fit u links) where
         by (OneJoined.over o big e f) = rw (e, f) (join-over joined h o big (joined .long ∙ m))
         by (OneJoined.kept o small e f) = rw (e, f) (join-kept joined h small (length-sets (u .b) (u .sets) result))
 
-    pub joins-end : u .p ≤ i → JoinedAll u links k (u .p) ρ₀ ρ result₀ result work
-    joins-end h = let same : i ≡ u .p = omega (arith, w .below) in subst (λ (m : ℕ). JoinedAll u links k m ρ₀ ρ result₀ result work) same (w .so-far)
+    pub joins-end : u .p ≤ i → JoinedAll u links k (u .p) ρ₀ ρ result₀ work₀ result work
+    joins-end h = let same : i ≡ u .p = omega (arith, w .below) in subst (λ (m : ℕ). JoinedAll u links k m ρ₀ ρ result₀ work₀ result work) same (w .so-far)
 
     pub joins-length : Ready u k result₀ work₀ → length result ≡ length result₀
     joins-length ready = same-long (ready .result-store) (w .so-far .ready .result-store) (w .so-far .beyond)
@@ -197,20 +205,22 @@ module _ (u : Layout) (links : List ℕ) (k : ℕ) (fit : Fit u links) where
 -- ---- one production, by its ways out
 
 module _ {u : Layout} {links : List ℕ} {k i : ℕ} {a : ℕ} (here : a ≡ leftAt links i) {ρ result : List ℕ} where
-  pub one-skipped : {work : List ℕ} → Ready u k result work → (getD ρ a 0 ≡ 22 → ⊥) → JoinedOne u links k i ρ ρ result result work
-  one-skipped ready n = record { ready = ready; case = OneJoined.skipped (λ e. n (rw here e)) refl refl; beyond = refl }
+  pub one-skipped : {work : List ℕ} → Ready u k result work → (getD ρ a 0 ≡ 22 → ⊥) → JoinedOne u links k i ρ ρ result work result work
+  one-skipped ready n = record { ready = ready; keeps = λ w s t. (s, t); case = OneJoined.skipped (λ e. n (rw here e)) refl refl; beyond = refl }
 
-  module _ (o : getD ρ a 0 ≡ 22) {full : Bool} {result′ work′ : List ℕ} (t : Taken u k (u .n + i) (u .n + u .p + a) full result result′ work′) where
-    pub one-over : full ≡ true → JoinedOne u links k i ρ (set ρ a 11) result result′ work′
+  module _ (o : getD ρ a 0 ≡ 22) {full : Bool} {work result′ work′ : List ℕ} (t : Taken u k (u .n + i) (u .n + u .p + a) full result work result′ work′) where
+    pub one-over : full ≡ true → JoinedOne u links k i ρ (set ρ a 11) result work result′ work′
     one-over e = record {
       ready = t .ready;
+      keeps = t .keeps;
       case = OneJoined.over (rw here at o) (rw here at (t .over e .0)) (t .over e .1) (rw here);
       beyond = t .beyond;
     }
 
-    pub one-kept : full ≡ false → JoinedOne u links k i ρ ρ result result′ work′
+    pub one-kept : full ≡ false → JoinedOne u links k i ρ ρ result work result′ work′
     one-kept e = record {
       ready = t .ready;
+      keeps = t .keeps;
       case = OneJoined.kept (rw here at o) (rw here at (t .done e .0)) (rw here at (t .done e .1)) refl;
       beyond = t .beyond;
     }

@@ -9,4 +9,5 @@ pub mod Answering
 pub mod Finishing
 pub mod Onward
 pub mod Going
+pub mod Further
 pub mod Kept

@@ -17,9 +17,12 @@ use Rattle.cfg.specs.Accept.{acceptTable}
 use Rattle.cfg.specs.Table.{tableSays, TableSound}
 use Rattle.cfg.specs.Written.{productionsOf}
 use Rattle.cfg.specs.declared.table.TableAnswer.{TableAnswer}
+use Rattle.k_tuple.specs.Strings.{widthOf}
+use Rattle.k_tuples.specs.Blocks.{IsStored}
 use Rattle.k_tuples.specs.Work.{Answer, got, refused, _>>=_}
 use Rattle.k_tuples.proofs.Work.{not-got, got-inj}
 use Rattle.analysis.specs.Analysis.{Analysis, work}
+use Rattle.analysis.proofs.Kept.{answers-right}
 use Rattle.engine.specs.declared.Lookahead.{Lookahead}
 use Rattle.engine.specs.Steps.{grammarIn, Ready}
 use Rattle.engine.proofs.Tables.{read-ready}
@@ -31,7 +34,7 @@ use Rattle.decision.specs.Steps.{held, Ready as KReady, Sized, grammarOf
 use Rattle.decision.specs.Onward.{firstOf, firstRefusal, Known, Prepared, Marked, KJoined}
 use Rattle.decision.proofs.Padded.{zeros-at}
 use Rattle.decision.proofs.Trying.{choices-in-place}
-use Rattle.decision.proofs.Answering.{table-ok, sized-needs, sized-spare, sets-stand, engine-works, engine-ready, engine-block, engine-held, engine-beyond}
+use Rattle.decision.proofs.Answering.{table-ok, sized-needs, sized-spare, sets-stand, engine-works, engine-result, engine-work, engine-ready, engine-block, engine-held, engine-beyond}
 use Rattle.decision.proofs.Finishing.{table-grammar, sized-table, given-all}
 
 -- ---- the first refusal
@@ -215,6 +218,7 @@ module _ {limit c : ℕ} {table : List ℕ} {u : Layout} {links result scratch :
   pub none-joined : {some : Bool} → Sought (u .n) marks some → some ≡ false → KJoined limit c k (grammarOf table) u ks result scratch result scratch
   none-joined s e = record {
     each = λ A h q. let l : A < u .n = omega (arith, given .sized .n) in absurd (s .none e A l (marked .these A l q));
+    stored = λ j s. (j, s);
     beyond = record { result-beyond = refl; scratch-beyond = refl };
   }
 
@@ -243,8 +247,16 @@ module _ {limit c : ℕ} {table : List ℕ} {u : Layout} {links result scratch :
     pub k-block : length scratch₁ ≡ length scratch → u .b ≤ length scratch₁
     k-block = engine-block given k>0 k<11 call unrefused
 
+    -- of the grammar's width
+    k-stored : {marks₂ result₂ work₂ : List ℕ} → JoinedAll u links k (u .p) marks marks₂ result₁ (take (u .b) scratch₁) result₂ work₂ → IsStored k (widthOf (grammarOf table .t + 5)) (u .b) (u .sets) result₂
+    k-stored {result₂ = result₂} j =
+        let (a, sets) = sets-stand given k>0 k<11 call unrefused in
+        subst (λ (w : ℕ). IsStored k w (u .b) (u .sets) result₂)
+        (answers-right (grammarOf table) k c (table-ok (given .on)) k>0 (given .on .c>0) a (sets .works) .sizes .width)
+        (j .keeps (a .width) (engine-result given k>0 k<11 call unrefused a sets) (engine-work given k>0 k<11 call unrefused a sets) .0)
+
     -- the joined sets are what was decided
-    pub k-joined : {marks₂ result₂ work₂ : List ℕ} → JoinedAll u links k (u .p) marks marks₂ result₁ result₂ work₂ → u .b ≤ length scratch₁ → length work₂ ≡ length (take (u .b) scratch₁)
+    pub k-joined : {marks₂ result₂ work₂ : List ℕ} → JoinedAll u links k (u .p) marks marks₂ result₁ (take (u .b) scratch₁) result₂ work₂ → u .b ≤ length scratch₁ → length work₂ ≡ length (take (u .b) scratch₁)
         → KJoined limit c k (grammarOf table) u ks result scratch result₂ (work₂ ++ drop (u .b) scratch₁)
     k-joined {marks₂} {result₂} {work₂} j room same = record {
       each = λ A h q.
@@ -255,10 +267,10 @@ module _ {limit c : ℕ} {table : List ℕ} {u : Layout} {links result scratch :
           let xs : choicesOf c k (a .productions) (a .follows) A (own (grammarOf table) A) ≡ got (w .choices) = rw one at (w .chosen) in
           let in-place = rw (engine-held given k>0 k<11 call unrefused a sets) at (j .joined .each A m) in
           record {
-            width = j .ready .width;
-            store = j .ready .result-store;
+            store = k-stored j;
             decided = w .decided ∙ ap (λ (x : List Choice). got (record { k = k; choices = x }))
                 (choices-in-place c k (grammarOf table) (table-ok (given .on)) k>0 (given .on .c>0) a (sets .works) u (given .sized) links (given .sides) A m (held u result₂) (w .choices) xs (marked .these A m q) in-place);
           };
+      stored = λ _ _. (k, k-stored j);
       beyond = engine-beyond given k>0 k<11 call unrefused (j .beyond) (drop-at work₂ (drop (u .b) scratch₁) (u .b) (same ∙ length-take-le (u .b) scratch₁ room));
     }

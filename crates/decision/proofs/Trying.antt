@@ -34,7 +34,7 @@ use Rattle.decision.specs.Onward.{choicesIn}
 
 -- ---- joined, and then decided
 
-module _ {u : Layout} {links : List ℕ} {k : ℕ} {ρ ρ₁ result result₁ work₁ : List ℕ} (j : JoinedAll u links k (u .p) ρ ρ₁ result result₁ work₁) where
+module _ {u : Layout} {links : List ℕ} {k : ℕ} {ρ ρ₁ result work result₁ work₁ : List ℕ} (j : JoinedAll u links k (u .p) ρ ρ₁ result work result₁ work₁) where
   pub joined-sets : Sets (u .b) (u .sets) result₁
   joined-sets = record { k = k; width = j .ready .width; store = j .ready .result-store }
 

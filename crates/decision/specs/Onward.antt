@@ -7,10 +7,12 @@ use mathlib.Core.List.{List, [], _∷_, map}
 use lib.Dec.{eqb}
 use lib.ListN.{getD}
 use Rattle.cfg.specs.Grammar.{Grammar}
+use Rattle.k_tuple.specs.Strings.{widthOf}
 use Rattle.k_tuples.specs.States.{State}
 use Rattle.k_tuples.specs.Work.{got}
 use Rattle.k_tuples.specs.Blocks.{IsStored}
 use Rattle.analysis.specs.Analysis.{resultNeeds, scratchNeeds}
+use Rattle.engine.specs.Call.{wiped}
 use Rattle.decision_theory.specs.Needed.{Choice, own, decide, neededK}
 use Rattle.decision.specs.declared.Layout.{Layout}
 use Rattle.decision.specs.Steps.{Long, held, productionSet, grammarOf, Given, Beyond}
@@ -51,13 +53,21 @@ pub record Marked (n k : ℕ) (ks marks : List ℕ) : Type 0 where
 abbrev pub choicesIn : Layout → Grammar → State → ℕ → List Choice
 choicesIn u g R A = map (λ (i : ℕ). record { production = i; ahead = productionSet u R i }) (own g A)
 
--- the result holds sets at k, and those of A's productions are what is decided for A
+-- the result holds sets at k, of the grammar's width, and those of A's productions are what is decided for A
 pub record JoinedFor (limit c k : ℕ) (g : Grammar) (u : Layout) (A : ℕ) (result : List ℕ) : Type 0 where
-  pub width : ℕ
-  pub store : IsStored k width (u .b) (u .sets) result
+  pub store : IsStored k (widthOf (g .t + 5)) (u .b) (u .sets) result
   pub decided : decide c g A limit ≡ got (record { k = k; choices = choicesIn u g (held u result) A })
 
 -- so for each nonterminal whose k this is
 pub record KJoined (limit c k : ℕ) (g : Grammar) (u : Layout) (ks result scratch result′ scratch′ : List ℕ) : Type 0 where
   pub each : (A : ℕ) → A < g .n → getD ks A 0 ≡ k → JoinedFor limit c k g u A result′
+  -- whatever sets of the grammar's width stood in the result, some do
+  pub stored : (j : ℕ) → IsStored j (widthOf (g .t + 5)) (u .b) (u .sets) result → (i : ℕ) × IsStored i (widthOf (g .t + 5)) (u .b) (u .sets) result′
   pub beyond : Beyond c g result scratch result′ scratch′
+
+-- ---- at the end
+
+-- what the engine needs of both buffers is wiped
+pub record Wiped (c : ℕ) (g : Grammar) (result scratch result′ scratch′ : List ℕ) : Type 0 where
+  pub result-words : result′ ≡ wiped (resultNeeds c g) result
+  pub scratch-words : scratch′ ≡ wiped (scratchNeeds c g) scratch

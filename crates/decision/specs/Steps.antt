@@ -63,11 +63,17 @@ pub record Ready (u : Layout) (k : ℕ) (result work : List ℕ) : Type 0 where
   pub least : 1 ≤ k
   pub most : k ≤ 10
 
+-- words that hold sets of some width, and a block to work in, do so once others stand in their place
+abbrev pub KeepsWidth : (u : Layout) (k : ℕ) (result work result′ work′ : List ℕ) → Type 0
+KeepsWidth u k result work result′ work′ =
+    (w : ℕ) → IsStored k w (u .b) (u .sets) result → IsStored k w (u .b) 1 work → IsStored k w (u .b) (u .sets) result′ × IsStored k w (u .b) 1 work′
+
 -- ---- joins in place
 
 -- set `at` has become its join with set `from`, or that was too large
-pub record Taken (u : Layout) (k at from : ℕ) (full : Bool) (result result′ work′ : List ℕ) : Type 0 where
+pub record Taken (u : Layout) (k at from : ℕ) (full : Bool) (result work result′ work′ : List ℕ) : Type 0 where
   pub ready : Ready u k result′ work′
+  pub keeps : KeepsWidth u k result work result′ work′
   pub over : full ≡ true → (room u < length (joinSets k (setOf (held u result) at) (setOf (held u result) from))) × (held u result′ ≡ held u result)
   pub done : full ≡ false → (length (joinSets k (setOf (held u result) at) (setOf (held u result) from)) ≤ room u)
       × (held u result′ ≡ set (held u result) at (joinSets k (setOf (held u result) at) (setOf (held u result) from)))
@@ -79,8 +85,9 @@ pub data OneJoined (u : Layout) (links : List ℕ) (k i : ℕ) (R R′ : State) 
   over : getD ρ (leftAt links i) 0 ≡ 22 → room u < length (joinedOf u links k R i) → R′ ≡ R → ρ′ ≡ set ρ (leftAt links i) 11 → OneJoined u links k i R R′ ρ ρ′
   kept : getD ρ (leftAt links i) 0 ≡ 22 → length (joinedOf u links k R i) ≤ room u → R′ ≡ set R (u .n + i) (joinedOf u links k R i) → ρ′ ≡ ρ → OneJoined u links k i R R′ ρ ρ′
 
-pub record JoinedOne (u : Layout) (links : List ℕ) (k i : ℕ) (ρ ρ′ result result′ work′ : List ℕ) : Type 0 where
+pub record JoinedOne (u : Layout) (links : List ℕ) (k i : ℕ) (ρ ρ′ result work result′ work′ : List ℕ) : Type 0 where
   pub ready : Ready u k result′ work′
+  pub keeps : KeepsWidth u k result work result′ work′
   pub case : OneJoined u links k i (held u result) (held u result′) ρ ρ′
   pub beyond : past u result′ ≡ past u result
 
@@ -98,8 +105,9 @@ pub record Joining (u : Layout) (links : List ℕ) (k i : ℕ) (R R′ : State) 
   pub others : (A : ℕ) → u .n ≤ A → getD ρ′ A 0 ≡ getD ρ A 0
   pub long : length ρ′ ≡ length ρ
 
-pub record JoinedAll (u : Layout) (links : List ℕ) (k i : ℕ) (ρ ρ′ result result′ work′ : List ℕ) : Type 0 where
+pub record JoinedAll (u : Layout) (links : List ℕ) (k i : ℕ) (ρ ρ′ result work result′ work′ : List ℕ) : Type 0 where
   pub ready : Ready u k result′ work′
+  pub keeps : KeepsWidth u k result work result′ work′
   pub joined : Joining u links k i (held u result) (held u result′) ρ ρ′
   pub beyond : past u result′ ≡ past u result
 

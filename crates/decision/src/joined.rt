@@ -1,5 +1,5 @@
-// For calls that go on from what `needed_k` answered: its first refusal, the table's layout and links, and the joined sets of the nonterminals that need
-// one k, which `needed_k` worked out and did not keep.
+// For calls that go on from what `needed_k` answered: its first refusal, the table's layout and links, the joined sets of the nonterminals that need one k,
+// which `needed_k` worked out and did not keep, and the wiping at the end.
 ghost use mathlib.Core.Path.{_≡_};
 ghost use Prim.Native.Nat.{_≤_};
 ghost use lib.ListN.{length};
@@ -7,13 +7,14 @@ ghost use Rattle.cfg.specs.Written.{productionsOf};
 ghost use Rattle.engine.specs.Steps.{grammarIn, Ready as EngineReady};
 ghost use Rattle.decision.specs.Own.{AllLinked};
 ghost use Rattle.decision.specs.Steps.{Long, Given, Sized, OnTable, grammarOf};
-ghost use Rattle.decision.specs.Onward.{firstRefusal, Known, Prepared, Marked, KJoined};
+ghost use Rattle.decision.specs.Onward.{firstRefusal, Known, Prepared, Marked, KJoined, Wiped};
 use crate::Layout;
 use crate::joins::join_all;
 use crate::layout_of;
 use crate::own::link_all;
 use crate::own::wide;
 use crate::some_open;
+use crate::wipe;
 use cfg::accept::read_grammar;
 use cfg::table::TableAnswer;
 use engine::Shape;
@@ -125,4 +126,21 @@ pub fn join_k(
     lookahead_sets(k, c, table, result, scratch);
     let b = u.b;
     join_all(result, &mut scratch[..b], u, links, k, &mut marks);
+}
+
+// Both buffers become zero where they were worked in.
+pub fn wipe_both(
+    limit: u64,
+    c: u64,
+    table: &[u8],
+    u: Layout,
+    links: &[usize; 1152],
+    result: &mut [u64],
+    scratch: &mut [u64],
+)
+    requires { ⌜ Given limit c (now table) u (now links) (length (now result)) (length (now scratch)) ⌝ }
+    ensures { λ _. ⌜ Wiped c (grammarOf (now (table .entry))) (now (result .entry)) (now (scratch .entry)) (now (result .exit)) (now (scratch .exit)) ⌝ }
+{
+    wipe(result, u.sets * u.b);
+    wipe(scratch, (2 * u.n + 4) * u.b);
 }

@@ -32,7 +32,7 @@ fn take_join(
     from: usize,
 ) -> bool
     requires { ⌜ Ready u k (now result) (now work) × ((at < u .sets) × (from < u .sets)) ⌝ }
-    ensures { λ r. ⌜ Taken u k at from r (now (result .entry)) (now (result .exit)) (now (work .exit)) ⌝ }
+    ensures { λ r. ⌜ Taken u k at from r (now (result .entry)) (now (work .entry)) (now (result .exit)) (now (work .exit)) ⌝ }
 {
     if is_full(join_block(work, result, u, k, at, from)) {
         k_tuples::set::clear(work);
@@ -53,7 +53,7 @@ fn join_one(
     refusals: &mut [u64; 128],
 )
     requires { ⌜ (Ready u k (now result) (now work) × Fit u (now links)) × ((i < u .p) × Long (now refusals)) ⌝ }
-    ensures { λ _. ⌜ JoinedOne u (now (links .entry)) k i (now (refusals .entry)) (now (refusals .exit)) (now (result .entry)) (now (result .exit)) (now (work .exit)) ⌝ }
+    ensures { λ _. ⌜ JoinedOne u (now (links .entry)) k i (now (refusals .entry)) (now (refusals .exit)) (now (result .entry)) (now (work .entry)) (now (result .exit)) (now (work .exit)) ⌝ }
 {
     let a = links[i];
     if refusals[a] != 22 {
@@ -77,7 +77,7 @@ pub fn join_all(
     refusals: &mut [u64; 128],
 )
     requires { ⌜ (Ready u k (now result) (now work) × Fit u (now links)) × Long (now refusals) ⌝ }
-    ensures { λ _. ⌜ JoinedAll u (now (links .entry)) k (u .p) (now (refusals .entry)) (now (refusals .exit)) (now (result .entry)) (now (result .exit)) (now (work .exit)) ⌝ }
+    ensures { λ _. ⌜ JoinedAll u (now (links .entry)) k (u .p) (now (refusals .entry)) (now (refusals .exit)) (now (result .entry)) (now (work .entry)) (now (result .exit)) (now (work .exit)) ⌝ }
 {
     let p = u.p;
     let mut i = 0;

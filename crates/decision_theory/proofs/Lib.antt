@@ -7,4 +7,6 @@ pub mod Tree
 pub mod Prefixes
 pub mod Automaton
 pub mod Bytes
+pub mod Marking
+pub mod Listed
 pub mod Kept

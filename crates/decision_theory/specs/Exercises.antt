@@ -2,7 +2,7 @@
 use Prim.Native.Nat.{ℕ}
 use mathlib.Core.List.{List, [], _∷_}
 use mathlib.Core.Path.{_≡_, refl}
-use Rattle.k_tuple.specs.Strings.{digitsIn, widthOf}
+use Rattle.k_tuple.specs.Strings.{slots, digitsIn, widthOf}
 use Rattle.k_tuple.specs.Order.{cmp, cmpSlots}
 use Rattle.k_tuples.specs.Work.{Answer, got, refused, within, settle}
 use Rattle.k_tuples.specs.States.{sameSets}
@@ -19,6 +19,7 @@ use Rattle.analysis.specs.Analysis.{work}
 use Rattle.cfg.specs.Write.{writeNumber}
 use Rattle.decision_theory.specs.Needed.{ownFrom, choicesOf, apartFrom, apart, choicesAt, tryFrom, decide, neededK, grammarFor, decisions, neededKs}
 use Rattle.decision_theory.specs.Automaton.{entriesOf, behind, put, letters, accepts, below, nodes, statesFrom, automaton, automataBytes, allDecided, allSmall, automata}
+use Rattle.decision_theory.specs.Marking.{Row, Mark, accepted, bad-row, missing, stringsOf, productionFor, wantedRows, rowsFrom, has, checkRows, firstAbsent, markRows, mark}
 
 -- S → 5 V; V → 6; V → nothing
 abbrev pub listing : List ℕ
@@ -39,6 +40,10 @@ never = 1 ∷ 2 ∷ 0 ∷ 3 ∷ 0 ∷ 2 ∷ 11 ∷ 0 ∷ 0 ∷ 3 ∷ 11 ∷ 0 �
 -- S → 5 5 A 7 | 5 5 A 8; A → B | 5 5; B → 5 | 6
 abbrev pub own-sets : List ℕ
 own-sets = 3 ∷ 4 ∷ 0 ∷ 6 ∷ 0 ∷ 4 ∷ 11 ∷ 11 ∷ 2 ∷ 15 ∷ 0 ∷ 4 ∷ 11 ∷ 11 ∷ 2 ∷ 17 ∷ 1 ∷ 1 ∷ 4 ∷ 1 ∷ 2 ∷ 11 ∷ 11 ∷ 2 ∷ 1 ∷ 11 ∷ 2 ∷ 1 ∷ 13 ∷ []
+
+-- S → 7 S S | 8 6
+abbrev pub missing-seven : List ℕ
+missing-seven = 1 ∷ 4 ∷ 0 ∷ 2 ∷ 0 ∷ 3 ∷ 15 ∷ 0 ∷ 0 ∷ 0 ∷ 2 ∷ 17 ∷ 13 ∷ []
 
 -- ---- which k: with 4,096 words lent for each of the engine's buffers
 
@@ -110,4 +115,43 @@ trees-are = record {
   few-bytes = refl;
   lowest = refl;
   cut-short = refl;
+}
+
+-- ---- prediction tables
+
+abbrev row : ℕ → List ℕ → ℕ → Row
+row A w i = record { nonterminal = A; string = slots w; production = i }
+
+abbrev marks : ℕ → List ℕ → List Row → Answer Mark
+marks limit table rows = mark limit 8 table 4096 4096 rows
+
+pub record Marks : Type 0 where
+  -- in any order
+  pub fine : marks 2 listing (row 1 (6 ∷ []) 1 ∷ row 1 (0 ∷ []) 2 ∷ []) ≡ got accepted
+  pub turned : marks 2 listing (row 1 (0 ∷ []) 2 ∷ row 1 (6 ∷ []) 1 ∷ []) ≡ got accepted
+  -- of a row given twice the second is bad
+  pub twice : marks 2 listing (row 1 (6 ∷ []) 1 ∷ row 1 (6 ∷ []) 1 ∷ []) ≡ got (bad-row 1)
+  -- no row is wanted for a nonterminal with one production
+  pub one-production : marks 2 listing (row 0 (5 ∷ []) 0 ∷ []) ≡ got (bad-row 0)
+  pub other-production : marks 2 listing (row 1 (6 ∷ []) 1 ∷ row 1 (0 ∷ []) 1 ∷ []) ≡ got (bad-row 1)
+  pub lacks-end : marks 2 listing (row 1 (6 ∷ []) 1 ∷ []) ≡ got (missing 1 (slots (0 ∷ [])))
+  pub lacks-first : marks 2 two-ahead (row 0 (5 ∷ 6 ∷ []) 1 ∷ []) ≡ got (missing 0 (slots (5 ∷ 5 ∷ [])))
+  pub refused-first : marks 1 two-ahead (row 7 [] 7 ∷ []) ≡ refused 22
+  -- two stored cases: refused 25 with 0 and [7]; accepted
+  pub stored-missing : marks 3 missing-seven (row 0 (8 ∷ []) 1 ∷ []) ≡ got (missing 0 (slots (7 ∷ [])))
+  pub stored-accepted : marks 2 (2 ∷ 4 ∷ 0 ∷ 3 ∷ 1 ∷ 2 ∷ 17 ∷ 17 ∷ 0 ∷ 1 ∷ 11 ∷ 1 ∷ 1 ∷ 13 ∷ []) (row 1 (8 ∷ []) 0 ∷ row 1 (6 ∷ []) 2 ∷ []) ≡ got accepted
+
+pub marks-are : Marks
+unfolding work acceptTable testRefusal misses readTable productions symbols anyBelow closeRounds closeRound closeOne allMarked comesBack walk visit turn first levels level round roundFrom rightSide joinParts productionSets within settle sameSets sameSet insert union joinSets cmp cmpSlots follow takeAll takeOne joinFor positionSets start widthOf digitsIn member disjoint ownFrom choicesOf apartFrom apart choicesAt tryFrom decide grammarFor decisions allDecided stringsOf productionFor wantedRows rowsFrom has checkRows firstAbsent markRows mark
+marks-are = record {
+  fine = refl;
+  turned = refl;
+  twice = refl;
+  one-production = refl;
+  other-production = refl;
+  lacks-end = refl;
+  lacks-first = refl;
+  refused-first = refl;
+  stored-missing = refl;
+  stored-accepted = refl;
 }

@@ -1,4 +1,4 @@
--- What is promised of the definitions of K3 and K6. Each promise is a definition here, and a theorem of that type in proofs/Kept.antt. Assumes nothing.
+-- What is promised of the definitions of K3, K6 and K8. Each promise is a definition here, and a theorem of that type in proofs/Kept.antt. Assumes nothing.
 use Prim.Native.Nat.{ℕ, suc, _≤_, _<_}
 use mathlib.Core.Path.{_≡_}
 use mathlib.Core.Bool.{true}
@@ -13,6 +13,7 @@ use Rattle.k_tuples.specs.Work.{Answer, got, refused}
 use Rattle.first_theory.specs.Compute.{str}
 use Rattle.decision_theory.specs.Needed.{Of, Ahead, Serves, OneProduction, Needs, Decided, RightFor, neededK, WorkedOut, NoneBelow, NotWorkedOut, Reads, neededKs, CallAnswered}
 use Rattle.decision_theory.specs.Automaton.{State, automaton, AutomatonOf, automatonNumbers, automataBytes, AllAre, AllSmall, automata, AutomataAnswered}
+use Rattle.decision_theory.specs.Marking.{Row, Mark, accepted, mark, CallMarked, automataRows}
 
 -- ---- the answers
 
@@ -130,3 +131,19 @@ pub record Writes (table : List ℕ) (Ss : List (List State)) : Type 0 where
 -- So two calls, of whatever tables, that write the same bytes have the same automata.
 abbrev pub WrittenDetermine : Type 0
 WrittenDetermine = (table other : List ℕ) (Ss Ts : List (List State)) → Writes table Ss → Writes other Ts → automataBytes Ss ≡ automataBytes Ts → Ss ≡ Ts
+
+-- ---- marking a table of predictions
+
+-- Every input is answered as the rules say.
+abbrev pub MarkAll : Type 0
+MarkAll = (limit c : ℕ) (table : List ℕ) (result scratch : ℕ) (rows : List Row) → CallMarked limit c table result scratch rows (mark limit c table result scratch rows)
+
+-- There is one such answer.
+abbrev pub MarkOne : Type 0
+MarkOne = (limit c : ℕ) (table : List ℕ) (result scratch : ℕ) (rows : List Row) (x : Answer Mark)
+    → CallMarked limit c table result scratch rows x → x ≡ mark limit c table result scratch rows
+
+-- The automata, those with k = 0 left aside, listed as rows, are always accepted.
+abbrev pub AutomataAccepted : Type 0
+AutomataAccepted = (limit c : ℕ) (table : List ℕ) (result scratch : ℕ) (ds : List Decided)
+    → AllAre limit c table result scratch ds → mark limit c table result scratch (automataRows ds) ≡ got accepted

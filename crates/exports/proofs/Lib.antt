@@ -5,3 +5,4 @@ pub mod One
 pub mod RulesTold
 pub mod Needing
 pub mod AutomataCalled
+pub mod MarkCalled

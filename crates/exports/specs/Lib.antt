@@ -4,3 +4,4 @@ pub mod Pairs
 pub mod Rules
 pub mod Needed
 pub mod Automata
+pub mod Marks

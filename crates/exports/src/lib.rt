@@ -13,6 +13,7 @@ use lookahead::Lookahead;
 use lookahead::lookahead_sets;
 
 pub mod automata;
+pub mod mark;
 pub mod needed;
 pub mod rules;
 pub mod sets;

@@ -66,3 +66,9 @@ pub use decision::needed_k;
 pub use automaton::answer::Automata;
 // The prefix tree of each nonterminal's joined strings at the k that it needs, in lent bytes.
 pub use automaton::automata;
+
+// ---- marking a prediction table written by hand
+// What the call answers: a refusal or 0, the first bad row, and the first missing string with its nonterminal.
+pub use marking::answer::Mark;
+// Whether rows of four words, a nonterminal, a string's two words and a production, give each joined string its production and hold nothing else.
+pub use marking::mark;

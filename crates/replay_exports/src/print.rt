@@ -30,6 +30,18 @@ fn numbers(ws: &[u64]) {
     }
 }
 
+fn byte(b: u8) {
+    number(b as u64);
+}
+
+fn bytes(bs: &[u8]) {
+    let mut i = 0;
+    while i < bs.len() {
+        byte(bs[i]);
+        i += 1;
+    }
+}
+
 // A call, and its words in decimal.
 fn line(name: &[u8], number: u64, ws: &[u64]) {
     returned(name, number);
@@ -44,7 +56,8 @@ fn packed(text: &[u8], ws: &[u64]) {
     put(b"\n");
 }
 
-// These by the number of words: of a test, of a string, of a string unpacked, of a set, of the record, of the result and the scratch.
+// These by the number of words: of a test, of a string, of a mark, of a string unpacked, of a set, of the record, of the needed ks, of the result and the
+// scratch; and of an automaton's bytes.
 pub fn line_2(name: &[u8], number: u64, ws: &[u64; 2]) {
     line(name, number, ws);
 }
@@ -53,11 +66,19 @@ pub fn line_3(name: &[u8], number: u64, ws: &[u64; 3]) {
     line(name, number, ws);
 }
 
+pub fn line_5(name: &[u8], number: u64, ws: &[u64; 5]) {
+    line(name, number, ws);
+}
+
 pub fn line_12(name: &[u8], number: u64, ws: &[u64; 12]) {
     line(name, number, ws);
 }
 
 pub fn line_17(name: &[u8], number: u64, ws: &[u64; 17]) {
+    line(name, number, ws);
+}
+
+pub fn line_258(name: &[u8], number: u64, ws: &[u64; 258]) {
     line(name, number, ws);
 }
 
@@ -77,4 +98,10 @@ pub fn words_8(ws: &[u64; 8]) {
 
 pub fn words_42(ws: &[u64; 42]) {
     packed(b"  ", ws);
+}
+
+pub fn bytes_16(bs: &[u8; 16]) {
+    put(b" ");
+    bytes(bs);
+    put(b"\n");
 }

@@ -1,6 +1,7 @@
 -- `automata` meets its contract. Assumes nothing.
 use Rattle.decision.proofs.Going.{lists-long}
-use Rattle.automaton.proofs.Ending.{call-refused, call-known, call-reached, call-given, call-done, planned-n}
+use Rattle.decision.proofs.Further.{call-known, call-reached, call-given}
+use Rattle.automaton.proofs.Ending.{call-refused, call-done, planned-n}
 use borrow.Author.Needs.{needs}
 use Rattle.automaton.proofs.automata.Statement.{statement}
 use Rattle.automaton.proofs.automata.Tie as tie

@@ -2,7 +2,7 @@
 use mathlib.Core.Path.{_∙_}
 use Rattle.automaton.proofs.Counting.{told-fits}
 use Rattle.automaton.proofs.Ending.{trees-refused, trees-written}
-use Rattle.automaton.proofs.Passes.{regiven}
+use Rattle.decision.proofs.Further.{regiven}
 use borrow.Author.Needs.{needs}
 use Rattle.automaton.proofs.on_trees.Statement.{statement}
 use Rattle.automaton.proofs.on_trees.Tie as tie

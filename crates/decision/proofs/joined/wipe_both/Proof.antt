@@ -1,10 +1,10 @@
--- `wipe_both` meets its contract. Assumes nothing.
+-- `joined::wipe_both` meets its contract. Assumes nothing.
 use native.Mathlib.Omega.{arith}
 use Rattle.decision.proofs.Finishing.{given-result, given-scratch, given-fits}
-use Rattle.automaton.proofs.Ending.{wiped-both}
+use Rattle.decision.proofs.Further.{wiped-both}
 use borrow.Author.Needs.{needs}
-use Rattle.automaton.proofs.wipe_both.Statement.{statement}
-use Rattle.automaton.proofs.wipe_both.Tie as tie
+use Rattle.decision.proofs.joined.wipe_both.Statement.{statement}
+use Rattle.decision.proofs.joined.wipe_both.Tie as tie
 
 mul-wipe : tie.Need-mul-wipe
 mul-wipe c = omega (arith, given-result (c .before .before .before .before .before .pre))

@@ -1,0 +1,11 @@
+pub mod Digits
+pub mod Numbers
+pub mod Looking
+pub mod Lacking
+pub mod Meaning
+pub mod Standing
+pub mod Finding
+pub mod Ending
+pub mod Writing
+pub mod Kept
+pub mod Written
