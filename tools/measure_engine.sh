@@ -5,7 +5,8 @@
 #   tools/measure_engine.sh FOLDER [K..]      for each *.table of the folder; at 2 3 4 if no k is named
 #
 # All are the program tests/bench/analysis.c, linked with the static library or with a C engine. c is the least that serves: where it serves, each
-# greater one does. All must leave the same record and the same result words.
+# greater one does. All must leave the same record and the same result words, but for the number of unfinished
+# members, which is ours alone.
 set -euo pipefail
 cd "$(dirname "$0")/.."
 [ $# -gt 0 ] || { sed -n 5p "$0" >&2; exit 2; }

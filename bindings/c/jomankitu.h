@@ -4,7 +4,10 @@
    where one of them is written. Each function returns the number of a refusal, 0 where there is none (docs: the table of refusals). Its other
    numbers go to the words that are lent last, each of them 0 on a refusal. If those words are too few, it writes nothing at all and returns 10,
    in the table's order: where one of 1 to 9 would be refused with words enough, it returns that, and 10 comes before any later number.
-   A string is two words, the low one first. A set is a count, then its members in order, two words each, then zeros. */
+   A string is two words, the low one first. A set is a count word, then its members in order, two words each, then zeros. The lower half of the count
+   word is the number of members, 4,294,967,295 at most; the upper half is how many of them are not complete at the k of the call, so a set is one at its
+   k: where the number is wrong it is refused 13. A set without members is a 0 at every k; jomankitu_set_count and jomankitu_set_unfinished take a count
+   word apart, and jomankitu_set_word makes one. */
 #ifndef JOMANKITU_H
 #define JOMANKITU_H
 #include <stddef.h>
@@ -12,6 +15,11 @@
 #ifdef __cplusplus
 extern "C" {
 #endif
+
+/* The number of members that a count word says, how many of them are unfinished, and the count word of both. */
+static inline uint64_t jomankitu_set_count(uint64_t word) { return word & 0xffffffffu; }
+static inline uint64_t jomankitu_set_unfinished(uint64_t word) { return word >> 32; }
+static inline uint64_t jomankitu_set_word(uint64_t unfinished, uint64_t count) { return unfinished << 32 | count; }
 
 /* FIRST and FOLLOW of a table at k (1 to 10), with room for c (1 to 1,024) members in each set. result needs (2n + p + q)(2c + 1) words and
    scratch (2n + 4)(2c + 1). answer gets 16 words: refusal, n, p, q, width, the rounds of ten levels, the rounds of FOLLOW. */
@@ -89,7 +97,8 @@ uint64_t jomankitu_order(uint64_t x_lo, uint64_t x_hi, uint64_t y_lo, uint64_t y
 /* The length of a string and its slots, epsilon as 65,535, unused places 0. out gets 11 words. */
 uint64_t jomankitu_unpack(uint64_t lo, uint64_t hi, uint64_t *out, size_t out_len);
 
-/* The union of the sets a and b at k (1 to 10), in the words of out. told gets 1 word: 1 if it has more members than a, else 0. */
+/* The union of the sets a and b at k (1 to 10), in the words of out, which have room for (out_len - 1) / 2 members, 4,294,967,295 at most. told gets
+   1 word: 1 if it has more members than a, else 0. */
 uint64_t jomankitu_union(uint64_t k, const uint64_t *a, size_t a_len, const uint64_t *b, size_t b_len, uint64_t *out, size_t out_len,
                          uint64_t *told, size_t told_len);
 
@@ -99,10 +108,10 @@ uint64_t jomankitu_intersection(uint64_t k, const uint64_t *a, size_t a_len, con
 /* Whether the sets a and b have no member in common. out gets 1 word: 1 or 0. */
 uint64_t jomankitu_disjoint(uint64_t k, const uint64_t *a, size_t a_len, const uint64_t *b, size_t b_len, uint64_t *out, size_t out_len);
 
-/* Whether the set a has a member and every member is complete at k. out gets 1 word: 1 or 0. */
+/* Whether the set a has a member and every member is complete at k: its count word says that nothing is unfinished. out gets 1 word: 1 or 0. */
 uint64_t jomankitu_all_complete(uint64_t k, const uint64_t *a, size_t a_len, uint64_t *out, size_t out_len);
 
-/* The join of the sets a and b at k, in the words of out. */
+/* The join of the sets a and b at k, in the words of out: a itself where nothing of it is unfinished. */
 uint64_t jomankitu_join_sets(uint64_t k, const uint64_t *a, size_t a_len, const uint64_t *b, size_t b_len, uint64_t *out, size_t out_len);
 
 #ifdef __cplusplus

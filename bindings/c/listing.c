@@ -36,7 +36,7 @@ static void put_set(size_t kind, size_t i, uint64_t c) {
     uint64_t part[2], slots[11];
     jomankitu_set_of(WORDS, kind, i, answer[1], answer[2], answer[3], c, part, 2);
     put(':');
-    for (uint64_t m = 0; part[1] && m < result[part[0]]; m++) {
+    for (uint64_t m = 0; part[1] && m < jomankitu_set_count(result[part[0]]); m++) {
         const uint64_t *string = result + part[0] + 1 + 2 * m;
         jomankitu_unpack(string[0], string[1], slots, 11);
         put_text(" [");

@@ -9,9 +9,11 @@ enum { K = 2, C = 8, SIZE = 2 * C + 1, WORDS = 4096 };
 
 static const uint8_t table[] = {0x02, 0x02, 0x00, 0x03, 0x00, 0x02, 0x0B, 0x02, 0x01, 0x01, 0x0D, 0x01, 0x00};
 static const uint64_t record[16] = {0, 2, 3, 1, 4, 2, 2, 0, 0, 0, 0, 0, 0, 0, 0, 2};
-/* the eight sets of the listing, each a count and its members */
+#define OPEN(n) ((uint64_t)(n) << 32) /* in a count word: n members are unfinished */
+/* the eight sets of the listing, each a count word and its members */
 static const uint64_t sets[8][5] = {
-    {2, 5, ONE, 101, TWO}, {2, 6, ONE, 15, ONE}, {2, 5, ONE, 101, TWO}, {1, 6, ONE}, {1, 15, ONE}, {1, 0, ONE}, {1, 0, ONE}, {1, 0, ONE},
+    {OPEN(1) + 2, 5, ONE, 101, TWO}, {OPEN(2) + 2, 6, ONE, 15, ONE}, {OPEN(1) + 2, 5, ONE, 101, TWO}, {OPEN(1) + 1, 6, ONE},
+    {OPEN(1) + 1, 15, ONE}, {1, 0, ONE}, {1, 0, ONE}, {1, 0, ONE},
 };
 static uint64_t result[WORDS], scratch[WORDS], answer[16], out[11];
 
@@ -66,7 +68,8 @@ static int strings(void) {
     return jomankitu_push(15, ONE, 5, out, 2) != 17 || jomankitu_unpack(1, 0, out, 11) != 13 ? 30 : 0;
 }
 static int of_sets(void) {
-    static const uint64_t a[] = {1, 5, ONE}, b[] = {2, 5, ONE, 6, ONE}, joined[] = {2, 85, TWO, 101, TWO, 0, 0}, none[] = {0};
+    static const uint64_t a[] = {OPEN(1) + 1, 5, ONE}, b[] = {OPEN(2) + 2, 5, ONE, 6, ONE}, joined[] = {2, 85, TWO, 101, TWO, 0, 0}, none[] = {0};
+    static const uint64_t at_one[] = {2, 5, ONE, 6, ONE}; /* the members of b at k = 1, where they are complete */
     uint64_t told[1];
     if (jomankitu_union(2, a, LENGTH(a), b, LENGTH(b), out, 7, told, 1) || told[0] != 1 || !same(out, b, 5) || out[5]) return 40;
     if (jomankitu_union(2, b, LENGTH(b), a, LENGTH(a), out, 7, told, 1) || told[0]) return 41;
@@ -76,9 +79,23 @@ static int of_sets(void) {
     if (jomankitu_disjoint(0, a, 3, b, 5, NULL, 0) != 1 || jomankitu_disjoint(2, a, 2, b, 5, NULL, 0) != 10) return 49;
     if (jomankitu_intersection(2, a, LENGTH(a), b, LENGTH(b), out, 7) || !same(out, a, 3) || out[3]) return 43;
     if (jomankitu_disjoint(2, a, LENGTH(a), b, LENGTH(b), told, 1) || told[0]) return 44;
-    if (jomankitu_all_complete(1, b, LENGTH(b), told, 1) || told[0] != 1 || jomankitu_all_complete(2, b, LENGTH(b), told, 1) || told[0]) return 45;
+    if (jomankitu_all_complete(1, at_one, LENGTH(at_one), told, 1) || told[0] != 1 || jomankitu_all_complete(2, b, LENGTH(b), told, 1) || told[0]) return 45;
     if (jomankitu_all_complete(1, none, LENGTH(none), told, 1) || told[0]) return 47;
     return jomankitu_join_sets(2, a, LENGTH(a), b, LENGTH(b), out, 7) || !same(out, joined, 7) ? 46 : 0;
+}
+/* the number of unfinished members: what a set's word says, and sets that say a wrong one, which every function refuses, the output as it came */
+static int numbers(void) {
+    static const uint64_t a[] = {OPEN(1) + 1, 5, ONE}, low[] = {2, 5, ONE, 6, ONE}, none[] = {0}, some[] = {OPEN(1)};
+    uint64_t told[1], marks[7] = {7, 7, 7, 7, 7, 7, 7};
+    if (jomankitu_set_count(sets[0][0]) != 2 || jomankitu_set_unfinished(sets[0][0]) != 1 || jomankitu_set_word(1, 2) != sets[0][0]) return 80;
+    if (jomankitu_intersection(2, sets[0], 5, a, LENGTH(a), out, 7) || jomankitu_set_unfinished(out[0]) != 1 || !same(out, a, 3) || out[3]) return 81;
+    if (jomankitu_union(2, a, LENGTH(a), low, LENGTH(low), marks, 7, told, 1) != 13 || told[0]) return 82;
+    if (jomankitu_intersection(2, low, LENGTH(low), a, LENGTH(a), marks, 7) != 13) return 83;
+    if (jomankitu_join_sets(1, a, LENGTH(a), none, LENGTH(none), marks, 7) != 13) return 84;
+    if (jomankitu_disjoint(2, some, LENGTH(some), a, LENGTH(a), told, 1) != 13 || told[0]) return 85;
+    if (jomankitu_all_complete(1, a, LENGTH(a), told, 1) != 13 || jomankitu_all_complete(2, low, LENGTH(low), told, 1) != 13) return 86;
+    for (size_t i = 0; i < 7; i++) if (marks[i] != 7) return 87;
+    return 0;
 }
 /* S -> 5 5 | 5 6 needs 2; of the listing's grammar S needs 0 and V needs 1 */
 static int needed(void) {
@@ -153,5 +170,6 @@ int main(void) {
     if (!wrong) wrong = automata();
     if (!wrong) wrong = mark();
     if (!wrong) wrong = of_sets();
+    if (!wrong) wrong = numbers();
     return wrong ? wrong : rules();
 }

@@ -1,5 +1,6 @@
 /* Analyses a table file: FILE K C TIMES. Linked with the library or with tests/bench/engine.c, as CALL names it. Standard output gets the record's
-   sixteen words and then the words of the result; the exit status is the refusal. */
+   sixteen words and then the words of the result, of count words the lower half alone: the engines in C keep no number of unfinished members. The exit
+   status is the refusal. */
 typedef unsigned long u64;
 typedef unsigned char u8;
 int open(const char *, int, ...);
@@ -34,6 +35,8 @@ int main(int count, char **args) {
     for (u64 times = number(args[4]); times; times--)
         refusal = CALL(k, c, table, len, result, RESULT, scratch, SCRATCH, answer, 16);
     put(answer, 16);
-    if (!refusal) put(result, (2 * answer[1] + answer[2] + answer[3]) * (2 * c + 1));
+    u64 words = refusal ? 0 : (2 * answer[1] + answer[2] + answer[3]) * (2 * c + 1);
+    for (u64 i = 0; i < words; i += 2 * c + 1) result[i] &= 0xffffffff;
+    put(result, words);
     return (int)refusal;
 }

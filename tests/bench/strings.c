@@ -72,6 +72,12 @@ static int unite(Large *out, const Large *a, const Small *b) {
     for (u64 i = 0; i < b->count; i++) if (!add(&out->count, out->words, room, member(b->words, i))) return 0;
     return 1;
 }
+/* the count, and in the upper half of the word how many members are not complete: here it is found at the end alone */
+static u64 count_word(const Large *set) {
+    u64 open = 0;
+    for (u64 i = 0; i < set->count; i++) open += !complete(member(set->words, i));
+    return open << 32 | set->count;
+}
 static u64 mixed(u64 sum, u64 word) { return (sum + word) ^ sum >> 7; }
 static u64 round_of(u64 r, u64 members) {
     static Large joined, sum;
@@ -80,7 +86,7 @@ static u64 round_of(u64 r, u64 members) {
     set_of(&b, r + 500, members);
     if (!join_sets(&joined, &a, &b)) clear(&joined);
     if (!unite(&sum, &joined, &a)) clear(&sum);
-    u64 h = mixed(0, sum.count);
+    u64 h = mixed(0, count_word(&sum));
     for (u64 i = 0; i < 2 * room; i++) h = mixed(h, sum.words[i]);
     return h;
 }

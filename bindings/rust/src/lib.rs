@@ -1,5 +1,9 @@
 //! Safe calls over the archive of `rt staticlib exports`, which is for x86-64 Linux. The archive tests everything that it is given and refuses by
 //! number, so these wrappers only turn slices into pointers and lengths, and answers into `Result`s; a refusal's number is the error.
+//!
+//! A set is words: a count word, the members in order, two words each, then zeros. The lower half of the count word is the number of members, the upper
+//! half how many of them are not complete at the call's k; where that number is wrong the set is refused 13. `make_set` makes such words, and `count`,
+//! `unfinished` and `members` read them.
 
 pub mod automaton;
 
@@ -203,6 +207,37 @@ impl Terminals {
     }
 }
 
+/// The number of members of a set, from its count word; 0 for no words.
+pub fn count(set: &[u64]) -> usize {
+    set.first().map_or(0, |&word| (word & 0xffff_ffff) as usize)
+}
+
+/// How many members of a set are not complete at the k that it was made for, from its count word; 0 for no words.
+pub fn unfinished(set: &[u64]) -> usize {
+    set.first().map_or(0, |&word| (word >> 32) as usize)
+}
+
+/// The members of a set, in order, as far as there are words for them.
+pub fn members(set: &[u64]) -> impl Iterator<Item = Terminals> + '_ {
+    set.get(1..).unwrap_or(&[]).chunks_exact(2).take(count(set)).map(|m| Terminals(m[0], m[1]))
+}
+
+/// The words of the set of these strings at k, with none to spare; the strings may come in any order and more than once. Refused as sets are: 1 for k, 13
+/// where one is no member of a set at k or they are not of one width.
+pub fn make_set(k: u64, strings: &[Terminals]) -> Result<Vec<u64>, Refusal> {
+    let mut strings = strings.to_vec();
+    strings.sort_by_key(|t| (t.1, t.0));
+    strings.dedup();
+    let mut open = 0;
+    for t in &strings {
+        open += u64::from(!t.is_k_complete(k)?);
+    }
+    let mut set = vec![open << 32 | strings.len() as u64];
+    set.extend(strings.iter().flat_map(|t| [t.0, t.1]));
+    is_k_complete(k, &set)?;
+    Ok(set)
+}
+
 /// The union of two sets at k, in `out`; whether it has more members than the first.
 pub fn union(k: u64, a: &[u64], b: &[u64], out: &mut [u64]) -> Result<bool, Refusal> {
     words::<1>(|o, n| unsafe { raw::jomankitu_union(k, a.as_ptr(), a.len(), b.as_ptr(), b.len(), out.as_mut_ptr(), out.len(), o, n) }).map(|w| w[0] == 1)
@@ -213,7 +248,7 @@ pub fn intersection(k: u64, a: &[u64], b: &[u64], out: &mut [u64]) -> Result<(),
     answer(unsafe { raw::jomankitu_intersection(k, a.as_ptr(), a.len(), b.as_ptr(), b.len(), out.as_mut_ptr(), out.len()) }, ())
 }
 
-/// The join of two sets at k, in `out`.
+/// The join of two sets at k, in `out`: the first set where nothing of it is unfinished.
 pub fn k_concat(k: u64, a: &[u64], b: &[u64], out: &mut [u64]) -> Result<(), Refusal> {
     answer(unsafe { raw::jomankitu_join_sets(k, a.as_ptr(), a.len(), b.as_ptr(), b.len(), out.as_mut_ptr(), out.len()) }, ())
 }
@@ -222,7 +257,7 @@ pub fn is_disjoint(k: u64, a: &[u64], b: &[u64]) -> Result<bool, Refusal> {
     words::<1>(|o, n| unsafe { raw::jomankitu_disjoint(k, a.as_ptr(), a.len(), b.as_ptr(), b.len(), o, n) }).map(|w| w[0] == 1)
 }
 
-/// Whether a set has a member and every member is complete at k.
+/// Whether a set has a member and every member is complete at k, which its count word says.
 pub fn is_k_complete(k: u64, a: &[u64]) -> Result<bool, Refusal> {
     words::<1>(|o, n| unsafe { raw::jomankitu_all_complete(k, a.as_ptr(), a.len(), o, n) }).map(|w| w[0] == 1)
 }

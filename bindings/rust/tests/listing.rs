@@ -4,7 +4,7 @@ use jomankitu::*;
 const TABLE: [u8; 13] = [2, 2, 0, 3, 0, 2, 0x0B, 2, 1, 1, 0x0D, 1, 0];
 
 fn strings(set: &[u64]) -> Vec<Vec<u16>> {
-    (0..set[0] as usize).map(|i| Terminals(set[1 + 2 * i], set[2 + 2 * i]).unpack().unwrap()).collect()
+    members(set).map(|t| t.unpack().unwrap()).collect()
 }
 
 #[test]
@@ -16,6 +16,8 @@ fn the_listing() {
     assert_eq!(strings(set_of(&result, Kind::First, 1, &a, 8)), [vec![6], vec![65535]]);
     assert_eq!(strings(set_of(&result, Kind::Position, 0, &a, 8)), [vec![0]]);
     assert!(set_of(&result, Kind::Position, 1, &a, 8).is_empty());
+    let numbers = |kind, i| (count(set_of(&result, kind, i, &a, 8)), unfinished(set_of(&result, kind, i, &a, 8)));
+    assert_eq!((numbers(Kind::First, 0), numbers(Kind::First, 1), numbers(Kind::Follow, 0)), ((2, 1), (2, 2), (1, 0)));
     assert_eq!(result[8 * 17], 7, "words beyond the needed stay");
     assert_eq!(scratch[8 * 17 - 1..][..2], [0, 7], "the needed scratch ends zero");
 }

@@ -43,7 +43,7 @@ fn with(set: [u64; 129], x: StringAnswer) -> [u64; 129] {
     let StringAnswer::Is(t) = x else {
         return set;
     };
-    let one = [1, t.lo, t.hi];
+    let one = [0x0000_0001_0000_0001, t.lo, t.hi];
     let mut sum = [0u64; 129];
     union(K, &set, &one, &mut sum);
     sum

@@ -23,6 +23,10 @@ module _ {k w b m n free : ℕ} {F : State} {ws ws′ : List ℕ} (f : Front k w
 pub front-start : {k w b m n free : ℕ} {ws : List ℕ} → IsStored k w b m ws → Front k w b m n free (take n (setsIn b m ws)) ws ws
 front-start s = record { store = s; front = refl; others = λ i h k. refl; beyond = refl }
 
+-- no set has changed
+pub front-same : {k w b m n free : ℕ} {ws ws′ : List ℕ} → Turned k w b m (setsIn b m ws) ws ws′ → Front k w b m n free (take n (setsIn b m ws′)) ws ws′
+front-same t = record { store = turned-store t; front = refl; others = λ i h k. ap (λ (F : State). setOf F i) (turned-sets t); beyond = turned-beyond t }
+
 module _ {k w b m : ℕ} (n free : ℕ) {ws ws′ : List ℕ} where
   -- the free set has changed
   pub front-free : (x : List Str) → n ≤ free → Turned k w b m (set (setsIn b m ws) free x) ws ws′ → Front k w b m n free (take n (setsIn b m ws)) ws ws′

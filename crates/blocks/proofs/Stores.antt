@@ -1,4 +1,4 @@
--- Words that hold sets: one change after another, and the sets of one level at the next. Assumes nothing.
+-- Words that hold sets: one change after another. Assumes nothing.
 use mathlib.Core.Path.{_≡_, refl, sym, ap, _∙_, subst}
 use mathlib.Core.Bool.{false, _&&_}
 use mathlib.Core.Logic.{inl, inr, ⊎-elim}
@@ -85,26 +85,14 @@ block-filled {k} {w} {b} {m} {old} {new} {r} {ws} {p} h i l g e =
 
 -- ---- the set of one string
 
-module _ (w : ℕ) (z : Str) {t : Terminals} {ws : List ℕ} (o : Only t ws) (e : t ≡ packed w z) where
-  pub only-holds : {k : ℕ} → Fits k w z → Holds k w (z ∷ []) ws
-  only-holds {k} f =
-      subst (Holds k w (z ∷ [])) (sym (o .words w z e))
-      (holds-words k 3 w (z ∷ []) (omega arith) (λ y m. absurd (not-nil m), tt) (λ y m. subst (Fits k w) (sym (List·Memᴰ·eq-of-singleton m)) f))
+module _ {k : ℕ} (w : ℕ) (z : Str) {t : Terminals} {ws : List ℕ} (o : Only k t ws) (e : t ≡ packed w z) (f : Fits k w z) where
+  pub only-holds : Holds k w (z ∷ []) ws
+  only-holds =
+      subst (Holds k w (z ∷ [])) (sym (o .words w z e (f .well)))
+      (holds-words k 3 w (z ∷ []) (omega arith) (omega arith) (λ y m. absurd (not-nil m), tt) (λ y m. subst (Fits k w) (sym (List·Memᴰ·eq-of-singleton m)) f))
 
   pub only-length : length ws ≡ 3
-  only-length = ap length (o .words w z e) ∙ set-length 3 w (z ∷ []) (omega arith)
-
--- ---- at a greater k
-
-fits-raised : {k j w : ℕ} {z : Str} → k ≤ j → Fits k w z → Fits j w z
-fits-raised h f = record { well = f .well; some = f .some; short = le-trans (f .short) h }
-
-all-raised : {k j : ℕ} (w b : ℕ) (F : State) → k ≤ j → AllKept k w b F → AllKept j w b F
-all-raised w b [] h f = tt
-all-raised w b (a ∷ F) h f = (record { room = f .0 .room; sorted = f .0 .sorted; fit = λ z m. fits-raised h (f .0 .fit z m) }, all-raised w b F h (f .1))
-
-pub raised : {k j w b m : ℕ} {ws : List ℕ} → k ≤ j → IsStored k w b m ws → IsStored j w b m ws
-raised {w = w} {b = b} {m = m} {ws = ws} h s = record { stored = record { words = s .stored .words; kept = all-raised w b (setsIn b m ws) h (s .stored .kept) } }
+  only-length = ap length (o .words w z e (f .well)) ∙ set-length k 3 w (z ∷ []) (omega arith)
 
 -- ---- the first n sets, one after the other
 

@@ -1,12 +1,12 @@
 -- Words that are cut into blocks, a set in each: what a call needs of them, and what they hold after it. Where a call's answer and words are the
--- same whatever k and the width are, its promise holds for all of them, and a caller says which. Assumes nothing.
+-- same whatever the width is, and k where no number of unfinished members is made, its promise holds for all of them, and a caller says which. Assumes nothing.
 use mathlib.Core.Path.{_≡_}
-use mathlib.Core.Bool.{Bool}
+use mathlib.Core.Bool.{Bool, true}
 use mathlib.Core.List.{List, [], _∷_, _++_}
 use mathlib.Core.Logic.{_≢_}
 use Prim.Native.Nat.{ℕ, _*_, _≤_}
 use lib.ListN.{length, take, drop, set, replicate}
-use Rattle.k_tuple.specs.Strings.{Str}
+use Rattle.k_tuple.specs.Strings.{Str, wellFormed}
 use Rattle.k_tuple.specs.Packed.{packed}
 use Rattle.k_tuple.specs.declared.Terminals.{Terminals}
 use Rattle.k_tuples.specs.Sets.{union, joinSets, allComplete}
@@ -39,6 +39,18 @@ pub record WithOne (b m : ℕ) (ws xs : List ℕ) : Type 0 where
   pub store : IsStored k width b m ws
   pub one : Holds k width x xs
 
+-- the same two at k
+pub record BothAt (k b m l : ℕ) (ws vs : List ℕ) : Type 0 where
+  pub width : ℕ
+  pub first : IsStored k width b m ws
+  pub second : IsStored k width b l vs
+
+pub record WithOneAt (k b m : ℕ) (ws xs : List ℕ) : Type 0 where
+  pub width : ℕ
+  pub x : List Str
+  pub store : IsStored k width b m ws
+  pub one : Holds k width x xs
+
 -- words of m sets, and two sets beside them to join at k
 pub record WithTwo (k b m : ℕ) (ws xs ys : List ℕ) : Type 0 where
   pub width : ℕ
@@ -50,14 +62,20 @@ pub record WithTwo (k b m : ℕ) (ws xs ys : List ℕ) : Type 0 where
   pub first : Holds k width x xs
   pub second : Holds k width y ys
 
--- words of m sets, and a string to put into one of them
-pub record WithString (b m : ℕ) (t : Terminals) (ws : List ℕ) : Type 0 where
-  pub k : ℕ
+-- words of m sets at k, and a string to put into one of them
+pub record WithString (k b m : ℕ) (t : Terminals) (ws : List ℕ) : Type 0 where
   pub width : ℕ
   pub z : Str
   pub store : IsStored k width b m ws
   pub is : t ≡ packed width z
   pub fits : Fits k width z
+
+-- words of m sets at no more than k
+pub record Raisable (k b m : ℕ) (ws : List ℕ) : Type 0 where
+  pub j : ℕ
+  pub width : ℕ
+  pub low : j ≤ k
+  pub store : IsStored j width b m ws
 
 -- ---- what the words hold after it
 
@@ -81,13 +99,13 @@ pub record JoinAdded (k b m i : ℕ) (r : Grown) (xs ys ws ws′ : List ℕ) : T
       Filled k w b m i (length old) (union old (joinSets k x y)) r ws ws′
 
 -- a set has been added to set i
-pub record United (b m i : ℕ) (r : Grown) (xs ws ws′ : List ℕ) : Type 0 where
-  pub step : (k w : ℕ) (x : List Str) → IsStored k w b m ws → Holds k w x xs → let old = setOf (setsIn b m ws) i in
+pub record United (k b m i : ℕ) (r : Grown) (xs ws ws′ : List ℕ) : Type 0 where
+  pub step : (w : ℕ) (x : List Str) → IsStored k w b m ws → Holds k w x xs → let old = setOf (setsIn b m ws) i in
       Filled k w b m i (length old) (union old x) r ws ws′
 
 -- set `from` of other words, of l sets, has been added to set `to`
-pub record UnitedBlock (b m l from to : ℕ) (r : Grown) (vs ws ws′ : List ℕ) : Type 0 where
-  pub step : (k w : ℕ) → IsStored k w b m ws → IsStored k w b l vs → let old = setOf (setsIn b m ws) to in
+pub record UnitedBlock (k b m l from to : ℕ) (r : Grown) (vs ws ws′ : List ℕ) : Type 0 where
+  pub step : (w : ℕ) → IsStored k w b m ws → IsStored k w b l vs → let old = setOf (setsIn b m ws) to in
       Filled k w b m to (length old) (union old (setOf (setsIn b l vs) from)) r ws ws′
 
 -- set i is a copy of a set
@@ -102,13 +120,17 @@ pub record CopiedBlock (b m l from to : ℕ) (vs ws ws′ : List ℕ) : Type 0 w
 pub record Emptied (b m i : ℕ) (ws ws′ : List ℕ) : Type 0 where
   pub step : (k w : ℕ) → IsStored k w b m ws → Turned k w b m (set (setsIn b m ws) i []) ws ws′
 
--- three words are the set of one string, whatever its width is
-pub record Only (t : Terminals) (ws : List ℕ) : Type 0 where
-  pub words : (w : ℕ) (z : Str) → t ≡ packed w z → ws ≡ setWords 3 w (z ∷ [])
+-- three words are the set of one string at k, whatever its width is
+pub record Only (k : ℕ) (t : Terminals) (ws : List ℕ) : Type 0 where
+  pub words : (w : ℕ) (z : Str) → t ≡ packed w z → wellFormed w z ≡ true → ws ≡ setWords k 3 w (z ∷ [])
 
 -- set i is the set of one string
-pub record PutSingle (b m i : ℕ) (t : Terminals) (ws ws′ : List ℕ) : Type 0 where
-  pub step : (k w : ℕ) (z : Str) → IsStored k w b m ws → t ≡ packed w z → Fits k w z → Turned k w b m (set (setsIn b m ws) i (z ∷ [])) ws ws′
+pub record PutSingle (k b m i : ℕ) (t : Terminals) (ws ws′ : List ℕ) : Type 0 where
+  pub step : (w : ℕ) (z : Str) → IsStored k w b m ws → t ≡ packed w z → Fits k w z → Turned k w b m (set (setsIn b m ws) i (z ∷ [])) ws ws′
+
+-- the sets are those that were, at a greater k
+pub record Raised (k b m : ℕ) (ws ws′ : List ℕ) : Type 0 where
+  pub step : (j w : ℕ) → j ≤ k → IsStored j w b m ws → Turned k w b m (setsIn b m ws) ws ws′
 
 -- the first n sets are empty
 pub record EmptiedFirst (b m n : ℕ) (ws ws′ : List ℕ) : Type 0 where
@@ -124,7 +146,7 @@ pub record ComparedFirst (b m l n : ℕ) (r : Bool) (ws vs : List ℕ) : Type 0 
 
 -- whether every member of set i is complete at k
 pub record AskedComplete (k b m i : ℕ) (r : Bool) (ws : List ℕ) : Type 0 where
-  pub step : (j w : ℕ) → IsStored j w b m ws → r ≡ allComplete k (setOf (setsIn b m ws) i)
+  pub step : (w : ℕ) → IsStored k w b m ws → r ≡ allComplete k (setOf (setsIn b m ws) i)
 
 -- ---- the first sets
 

@@ -1,9 +1,17 @@
 // Lent words that are cut into blocks of b words, a set in each: work on one block, and on the first n blocks. Words have m such blocks, or l.
+// Where a set is made its number of unfinished members is that at k.
+use crate::one::join_more;
+use crate::one::join_over;
+use crate::one::unite_one;
 use k_tuple::Terminals;
 use k_tuples::set::Grown;
+use k_tuples::set::renumber;
 ghost use Prim.Native.Nat.{_≤_, _<_};
 ghost use lib.ListN.{length};
-ghost use Rattle.blocks.specs.Stores.{Sets, Both, WithOne, WithTwo, WithString, Only, PutSingle, Joined, JoinAdded, United, UnitedBlock, Copied, CopiedBlock, Emptied, EmptiedFirst, CopiedFirst, ComparedFirst, AskedComplete};
+ghost use Rattle.k_tuple.specs.Packed.{WellFormed};
+ghost use Rattle.blocks.specs.Stores.{Sets, Both, BothAt, WithOne, WithOneAt, WithTwo, WithString, Raisable, Only, PutSingle, Raised, Joined, JoinAdded, United, UnitedBlock, Copied, CopiedBlock, Emptied, EmptiedFirst, CopiedFirst, ComparedFirst, AskedComplete};
+
+pub mod one;
 
 // Makes block out the join of two sets.
 pub fn join_into(
@@ -20,7 +28,7 @@ pub fn join_into(
 {
     let at = out * b;
     let end = at + b;
-    k_joins::join::join_sets_over(&mut words[at..end], xs, ys, k)
+    join_over(&mut words[at..end], xs, ys, k)
 }
 
 // Adds the join of two sets to block out.
@@ -38,17 +46,17 @@ pub fn join_add(
 {
     let at = out * b;
     let end = at + b;
-    k_joins::join::join_into(&mut words[at..end], xs, ys, k)
+    join_more(&mut words[at..end], xs, ys, k)
 }
 
 // Adds a set to block to.
-pub fn unite_into(words: &mut [u64], xs: &[u64], b: usize, m: usize, to: usize) -> Grown
-    requires { ⌜ WithOne b m (now words) (now xs) × (to < m) ⌝ }
-    ensures { λ r. ⌜ United b m to r (now (xs .entry)) (now (words .entry)) (now (words .exit)) ⌝ }
+pub fn unite_into(words: &mut [u64], xs: &[u64], b: usize, m: usize, to: usize, k: u64) -> Grown
+    requires { ⌜ WithOneAt k b m (now words) (now xs) × (to < m) ⌝ }
+    ensures { λ r. ⌜ United k b m to r (now (xs .entry)) (now (words .entry)) (now (words .exit)) ⌝ }
 {
     let at = to * b;
     let end = at + b;
-    k_tuples::set::union_into(&mut words[at..end], xs)
+    unite_one(&mut words[at..end], xs, k)
 }
 
 // Adds block from of src to block to.
@@ -60,13 +68,14 @@ pub fn unite_block(
     l: usize,
     from: usize,
     to: usize,
+    k: u64,
 ) -> Grown
-    requires { ⌜ Both b m l (now words) (now src) × ((from < l) × (to < m)) ⌝ }
-    ensures { λ r. ⌜ UnitedBlock b m l from to r (now (src .entry)) (now (words .entry)) (now (words .exit)) ⌝ }
+    requires { ⌜ BothAt k b m l (now words) (now src) × ((from < l) × (to < m)) ⌝ }
+    ensures { λ r. ⌜ UnitedBlock k b m l from to r (now (src .entry)) (now (words .entry)) (now (words .exit)) ⌝ }
 {
     let at = from * b;
     let end = at + b;
-    unite_into(words, &src[at..end], b, m, to)
+    unite_into(words, &src[at..end], b, m, to, k)
 }
 
 // Makes block to a copy of a set that it has room for.
@@ -98,19 +107,34 @@ pub fn copy_block(
 }
 
 // The set of one string, in three words.
-pub fn single(t: Terminals) -> [u64; 3]
-    ensures { λ r. ⌜ Only t r ⌝ }
+pub fn single(t: Terminals, k: u64) -> [u64; 3]
+    requires { ⌜ WellFormed t ⌝ }
+    ensures { λ r. ⌜ Only k t r ⌝ }
 {
-    [1, t.lo, t.hi]
+    k_tuples::set::single(t, k)
 }
 
 // Makes block to the set of one string.
-pub fn put_single(words: &mut [u64], t: Terminals, b: usize, m: usize, to: usize)
-    requires { ⌜ WithString b m t (now words) × ((to < m) × (3 ≤ b)) ⌝ }
-    ensures { λ _. ⌜ PutSingle b m to t (now (words .entry)) (now (words .exit)) ⌝ }
+pub fn put_single(words: &mut [u64], t: Terminals, b: usize, m: usize, to: usize, k: u64)
+    requires { ⌜ WithString k b m t (now words) × ((to < m) × (3 ≤ b)) ⌝ }
+    ensures { λ _. ⌜ PutSingle k b m to t (now (words .entry)) (now (words .exit)) ⌝ }
 {
-    let one = single(t);
+    let one = single(t, k);
     copy_into(words, &one, b, m, to);
+}
+
+// Makes the numbers of all sets, which were true at a lower k, true at k.
+pub fn raise(words: &mut [u64], b: usize, m: usize, k: u64)
+    requires { ⌜ Raisable k b m (now words) ⌝ }
+    ensures { λ _. ⌜ Raised k b m (now (words .entry)) (now (words .exit)) ⌝ }
+{
+    let mut i = 0;
+    while i < m {
+        let at = i * b;
+        let end = at + b;
+        renumber(k, &mut words[at..end]);
+        i += 1;
+    }
 }
 
 // Empties block to.
@@ -164,12 +188,12 @@ pub fn same_first(xs: &[u64], ys: &[u64], b: usize, m: usize, l: usize, n: usize
     true
 }
 
-// Whether every member of block at is complete at k.
+// Whether every member of block at is complete at k, by the number that is kept.
 pub fn is_complete(words: &[u64], b: usize, m: usize, at: usize, k: u64) -> bool
     requires { ⌜ Sets b m (now words) × (at < m) ⌝ }
     ensures { λ r. ⌜ AskedComplete k b m at r (now (words .entry)) ⌝ }
 {
     let from = at * b;
     let end = from + b;
-    k_tuples::set::all_complete(k, &words[from..end])
+    k_tuples::set::number(&words[from..end]) == 0
 }

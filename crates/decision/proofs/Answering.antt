@@ -92,7 +92,7 @@ module _ {limit c : ℕ} {table : List ℕ} {u : Layout} {links result scratch :
   abbrev M : ℕ
   M = scratchNeeds c g
 
-  outcome : Outcome (work k c g) c N M result scratch l result₁ scratch₁
+  outcome : Outcome (work k c g) k c N M result scratch l result₁ scratch₁
   outcome = rw (analyse-is (given .on) (given .result-words) (given .scratch-words) k k>0 k<11, result-needed (given .on), scratch-needed (given .on)) at call
 
   -- it was refused
@@ -100,7 +100,7 @@ module _ {limit c : ℕ} {table : List ℕ} {u : Layout} {links result scratch :
   unfolding answerOf resultAfter scratchAfter
   refusal-eleven n = by (work k c g) refl outcome
     where
-      by : (m : Answer Analysis) → work k c g ≡ m → Outcome m c N M result scratch l result₁ scratch₁ → (work k c g ≡ refused 11) × ((result₁ ≡ wiped N result) × (scratch₁ ≡ wiped M scratch))
+      by : (m : Answer Analysis) → work k c g ≡ m → Outcome m k c N M result scratch l result₁ scratch₁ → (work k c g ≡ refused 11) × ((result₁ ≡ wiped N result) × (scratch₁ ≡ wiped M scratch))
       by (refused e) w o =
           let q : e ≡ 11 = only-eleven g k c (table-ok (given .on)) k>0 (given .on .c>0) e w in
           let late : leb e 10 ≡ false = lt-leb e 10 (omega arith) in
@@ -118,7 +118,7 @@ module _ {limit c : ℕ} {table : List ℕ} {u : Layout} {links result scratch :
   -- what the definition works out is not refused
   pub engine-works : (a : Analysis) → work k c g ≡ got a → l .refusal ≡ 0
   unfolding answerOf
-  engine-works a w = let o : Outcome (got a) c N M result scratch l result₁ scratch₁ = rw w at outcome in ap (λ (x : Lookahead). x .refusal) (o .answer)
+  engine-works a w = let o : Outcome (got a) k c N M result scratch l result₁ scratch₁ = rw w at outcome in ap (λ (x : Lookahead). x .refusal) (o .answer)
 
   -- it was not: the sets stand in the result, and the scratch is zero
   pub record Sets (a : Analysis) : Type 0 where
@@ -131,7 +131,7 @@ module _ {limit c : ℕ} {table : List ℕ} {u : Layout} {links result scratch :
   unfolding answerOf resultAfter scratchAfter
   sets-stand z = by (work k c g) refl outcome
     where
-      by : (m : Answer Analysis) → work k c g ≡ m → Outcome m c N M result scratch l result₁ scratch₁ → (a : Analysis) × Sets a
+      by : (m : Answer Analysis) → work k c g ≡ m → Outcome m k c N M result scratch l result₁ scratch₁ → (a : Analysis) × Sets a
       by (refused e) w o =
           let q : e ≡ 11 = only-eleven g k c (table-ok (given .on)) k>0 (given .on .c>0) e w in
           absurd (let n : l .refusal ≡ e = ap (λ (x : Lookahead). x .refusal) (o .answer) in omega arith)
@@ -140,7 +140,7 @@ module _ {limit c : ℕ} {table : List ℕ} {u : Layout} {links result scratch :
             a,
             record {
               works = w;
-              stored = rw (given .sized .b) (record { words = o .result-words; kept = sets-kept g k c (table-ok (given .on)) (table-is-read (given .on) .terminals) k>0 k<11 (given .on .c>0) a w });
+              stored = rw (given .sized .b) (record { words = o .result-words; kept = sets-kept g k c (table-ok (given .on)) (table-is-read (given .on) .terminals) k>0 k<11 (given .on .c>0) (given .on .c<1025) a w });
               many = given .sized .all ∙ sym (sets-count a (counted g k c a is) ∙ rw (is .sizes .n, is .sizes .p, is .sizes .q));
               clean = o .scratch-words;
             },
@@ -189,7 +189,7 @@ module _ {limit c : ℕ} {table : List ℕ} {u : Layout} {links result scratch :
     engine-tried d =
         let (a, s) = sets-stand z in
         record {
-          tried = sets-tried c k g (table-ok (given .on)) k>0 (given .on .c>0) a (s .works) u (given .sized) links (given .sides) (rw (engine-held a s) at (d .tried));
+          tried = sets-tried c k g (table-ok (given .on)) k>0 (given .on .c>0) (given .on .c<1025) a (s .works) u (given .sized) links (given .sides) (rw (engine-held a s) at (d .tried));
           beyond = engine-beyond (d .result-beyond) (d .scratch-beyond);
         }
 

@@ -269,7 +269,7 @@ module _ {limit c : ℕ} {table : List ℕ} {u : Layout} {links result scratch :
           record {
             store = k-stored j;
             decided = w .decided ∙ ap (λ (x : List Choice). got (record { k = k; choices = x }))
-                (choices-in-place c k (grammarOf table) (table-ok (given .on)) k>0 (given .on .c>0) a (sets .works) u (given .sized) links (given .sides) A m (held u result₂) (w .choices) xs (marked .these A m q) in-place);
+                (choices-in-place c k (grammarOf table) (table-ok (given .on)) k>0 (given .on .c>0) (given .on .c<1025) a (sets .works) u (given .sized) links (given .sides) A m (held u result₂) (w .choices) xs (marked .these A m q) in-place);
           };
       stored = λ _ _. (k, k-stored j);
       beyond = engine-beyond given k>0 k<11 call unrefused (j .beyond) (drop-at work₂ (drop (u .b) scratch₁) (u .b) (same ∙ length-take-le (u .b) scratch₁ room));

@@ -22,6 +22,8 @@ use Rattle.analysis.specs.Promises.{Analysed}
 use Rattle.analysis.proofs.Kept.{answers-right}
 use Rattle.engine.specs.Ask.{kindStart, kindCount}
 use Rattle.engine.specs.Call.{setsOf, ofKind}
+use Rattle.k_tuples.specs.Words.{roomOf}
+use Rattle.engine.proofs.Beginning.{room-is as room-of-size}
 use Rattle.engine.proofs.Asked.{Counted, counted, kind-place}
 use Rattle.decision_theory.specs.Needed.{own, Choice, choicesOf, apart}
 use Rattle.decision_theory.specs.Steps.{tried}
@@ -106,7 +108,7 @@ passed-tried c g k {n} {ρ} {ρ′} κ en e p = record {
     past A o (PassedTo.passed n f) = f
 
 -- the sets of an analysis
-module _ (c k : ℕ) (g : Grammar) (ok : Accepted g) (k>0 : 1 ≤ k) (c>0 : 1 ≤ c) (a : Analysis) (e : work k c g ≡ got a)
+module _ (c k : ℕ) (g : Grammar) (ok : Accepted g) (k>0 : 1 ≤ k) (c>0 : 1 ≤ c) (c<1025 : c ≤ 1024) (a : Analysis) (e : work k c g ≡ got a)
     (u : Layout) (sized : Sized c g u) (links : List ℕ) (sides : SidesOf (g .productions) links) where
   is : Analysed g k c a
   is = answers-right g k c ok k>0 c>0 a e
@@ -128,7 +130,7 @@ module _ (c k : ℕ) (g : Grammar) (ok : Accepted g) (k>0 : 1 ≤ k) (c>0 : 1 �
       ap₂ (λ (m q : ℕ). setOf (setsOf a) (m + q + A)) n p ∙ kind-place a many 2 A (rw n at h)
 
   room-is : room u ≡ c
-  room-is = rw (sized .b) (let z : (2 * c + 1 - 1) / 2 ≡ c = omega arith in z)
+  room-is = ap roomOf (sized .b) ∙ room-of-size c (omega arith)
 
   module _ (A : ℕ) (h : A < u .n) where
     own-at : (i : ℕ) → i < u .p → leftAt links i ≡ A → i ∈ own g A

@@ -122,7 +122,7 @@ module _ (k c : ℕ) (table result scratch : List ℕ) (a : Analysis) (e : analy
   many = counted (known .g) k c a is
 
   kept : AllKept k (a .width) (2 * c + 1) (setsOf a)
-  kept = sets-kept (known .g) k c (ok .0) (ok .1 .terminals) (known .k>0) (known .k<11) (known .c>0) a (known .works)
+  kept = sets-kept (known .g) k c (ok .0) (ok .1 .terminals) (known .k>0) (known .k<11) (known .c>0) (known .c<1025) a (known .works)
 
   module _ (kind number : ℕ) (h : number < length (ofKind kind a)) where
     below : number < kindCount kind (a .n) (a .p) (a .q)
@@ -137,7 +137,7 @@ module _ (k c : ℕ) (table result scratch : List ℕ) (a : Analysis) (e : analy
         subst (Kept k (a .width) (2 * c + 1)) (kind-place a many kind number below) (kept-at (setsOf a) (kindStart kind (a .n) (a .p) + number) kept inside)
 
     -- asking for it gives its words
-    pub asked : setPart kind number (a .n) (a .p) (a .q) c (resultAfter c (resultNeeded c table) result (got a)) ≡ setWords (2 * c + 1) (a .width) (setOf (ofKind kind a) number)
+    pub asked : setPart kind number (a .n) (a .p) (a .q) c (resultAfter k c (resultNeeded c table) result (got a)) ≡ setWords k (2 * c + 1) (a .width) (setOf (ofKind kind a) number)
     unfolding setPart resultAfter thereIs inLimits resultSize
     asked =
         let sizes = accepted-sizes table (known .g) (known .next) (known .reads) in
@@ -146,7 +146,7 @@ module _ (k c : ℕ) (table result scratch : List ℕ) (a : Analysis) (e : analy
         let p = is .sizes .p in
         let q = is .sizes .q ∙ occurrences-count (known .g .productions) in
         let long = length-store k (a .width) (2 * c + 1) rest (setsOf a) kept in
-        let whole : (2 * a .n + a .p + a .q) * (2 * c + 1) ≤ length (store (2 * c + 1) (a .width) (setsOf a) rest) = rw (long, sets-count a many) (omega arith) in
+        let whole : (2 * a .n + a .p + a .q) * (2 * c + 1) ≤ length (store k (2 * c + 1) (a .width) (setsOf a) rest) = rw (long, sets-count a many) (omega arith) in
         rw (
           le-leb 1 (a .n) (omega (arith, sizes .some)),
           le-leb (a .n) 128 (omega (arith, sizes .nonterminals)),
@@ -155,7 +155,7 @@ module _ (k c : ℕ) (table result scratch : List ℕ) (a : Analysis) (e : analy
           le-leb 1 c (known .c>0),
           le-leb c 1024 (known .c<1025),
           lt-ltb number (kindCount kind (a .n) (a .p) (a .q)) below,
-          le-leb ((2 * a .n + a .p + a .q) * (2 * c + 1)) (length (store (2 * c + 1) (a .width) (setsOf a) rest)) whole,
+          le-leb ((2 * a .n + a .p + a .q) * (2 * c + 1)) (length (store k (2 * c + 1) (a .width) (setsOf a) rest)) whole,
         )
         (block-store k (a .width) (2 * c + 1) rest (setsOf a) (kindStart kind (a .n) (a .p) + number) kept inside
-        ∙ ap (setWords (2 * c + 1) (a .width)) (kind-place a many kind number below))
+        ∙ ap (setWords k (2 * c + 1) (a .width)) (kind-place a many kind number below))

@@ -1,5 +1,6 @@
 -- The work from the start: buffers of zeros are ready for FIRST, and what is worked out then is the analysis. Assumes nothing.
-use Prim.Native.Nat.{ℕ, zero, suc, _+_, _*_, _-_, _≤_}
+use Prim.Native.Nat.{ℕ, zero, suc, _+_, _*_, _-_, _/_, _≤_, _<_}
+use native.Mathlib.Nat.{min-eq-left}
 use native.Mathlib.Omega.{arith}
 use mathlib.Core.Path.{_≡_, refl, sym, ap, _∙_, subst}
 use mathlib.Core.List.{List, [], _∷_, _++_}
@@ -34,8 +35,9 @@ use Rattle.engine.specs.Steps.{grammarIn, Ready, Clean, Ran}
 use Rattle.engine.specs.Runs.{setupOf, finished, Begun, Rest, restOf, restFor, RestRan}
 use Rattle.engine.proofs.Needed.{productions-few}
 
-pub room-is : (c : ℕ) → roomOf (2 * c + 1) ≡ c
-room-is c = omega arith
+pub room-is : (c : ℕ) → c < 4294967296 → roomOf (2 * c + 1) ≡ c
+unfolding roomOf
+room-is c h = let e : (2 * c + 1 - 1) / 2 ≡ c = omega arith in rw e (min-eq-left (omega arith))
 
 pub places-padded : (n : ℕ) (xs : List ℕ) → length xs ≤ n → places n xs ≡ xs ++ replicate (n - length xs) 0
 places-padded zero [] h = refl
@@ -152,14 +154,14 @@ module _ {k c : ℕ} {s : Shape} {words : List ℕ} (ready : Ready k c s words) 
         module _ {r : Lookahead} {result₂ scratch₂ : List ℕ} (rest : RestRan (setupOf c s q) k q (l .rounds) words result₁ scratch₁ r result₂ scratch₂) where
           rest-room : restFor (setupOf c s q) k words result₁ ≡ restOf c k (grammarIn s words) X
           unfolding X
-          rest-room = ap (λ (d : ℕ). restOf d k (grammarIn s words) (oldSets (setupOf c s q) result₁)) (room-is c)
+          rest-room = ap (λ (d : ℕ). restOf d k (grammarIn s words) (oldSets (setupOf c s q) result₁)) (room-is c (omega (arith, ready .c<1025)))
 
           held : (x : Rest) → restFor (setupOf c s q) k words result₁ ≡ got x
-              → result₂ ≡ store (2 * c + 1) (whole x .width) (setsOf (whole x)) (drop (resultNeeds c (grammarIn s words)) result)
+              → result₂ ≡ store k (2 * c + 1) (whole x .width) (setsOf (whole x)) (drop (resultNeeds c (grammarIn s words)) result)
           unfolding setsOf whole X
           held x f =
               rest .sets x f
-              ∙ ap (store (2 * c + 1) (widthOf (s .t + 5)) (oldSets (setupOf c s q) result₁ ++ (x .productions ++ (x .follows ++ x .positions))))
+              ∙ ap (store k (2 * c + 1) (widthOf (s .t + 5)) (oldSets (setupOf c s q) result₁ ++ (x .productions ++ (x .follows ++ x .positions))))
               (ap (λ (m : ℕ). drop m result₁) result-size ∙ past)
 
           done-there : Ran k c (grammarIn s words) result scratch r result₂ scratch₂
@@ -185,7 +187,7 @@ module _ {k c : ℕ} {s : Shape} {words : List ℕ} (ready : Ready k c s words) 
                   record {
                     answer = rest .answer ∙ rw (rest-room ∙ f, w) (told-whole x w);
                     sets = λ y v. let same : whole x ≡ y = got-inj (sym w ∙ v) in
-                        subst (λ (a : Analysis). result₂ ≡ store (2 * c + 1) (a .width) (setsOf a) (drop N result)) same (held x (rest-room ∙ f));
+                        subst (λ (a : Analysis). result₂ ≡ store k (2 * c + 1) (a .width) (setsOf a) (drop N result)) same (held x (rest-room ∙ f));
                     result-beyond = beyond;
                     scratch-beyond = rest .scratch-beyond ∙ run .scratch-beyond;
                   }
@@ -197,7 +199,7 @@ module _ {k c : ℕ} {s : Shape} {words : List ℕ} (ready : Ready k c s words) 
       run-there : LevelsRun (setupOf c s q) at k (first c (grammarIn s words) k) l result scratch result₁ scratch₁
       run-there =
           let here : LevelsRun (setupOf c s q) at j (first (roomOf (2 * c + 1)) (grammarIn s words) j) l result scratch result₁ scratch₁ = rw e at run in
-          rw (room-is c, same) at here
+          rw (room-is c (omega (arith, ready .c<1025)), same) at here
 
       pub levels-refused : {r : Lookahead} → (l .refusal ≡ 0 → ⊥) → r ≡ answerOf (refused (l .refusal)) → Ran k c (grammarIn s words) result scratch r result₁ scratch₁
       levels-refused z a = refused-there run-there z a

@@ -22,8 +22,8 @@ use Rattle.engine.specs.Steps.{onGrammar, Worked, Asked}
 
 -- ---- refusals 1 to 10 leave the words as they came
 
-pub untouched : {m : Answer Analysis} {c needed needed′ r : ℕ} {x : Lookahead} (result scratch : List ℕ) → r ≤ 10 → m ≡ refused r → x ≡ answerOf (refused r)
-    → Left m c needed needed′ result scratch x result scratch
+pub untouched : {m : Answer Analysis} {k c needed needed′ r : ℕ} {x : Lookahead} (result scratch : List ℕ) → r ≤ 10 → m ≡ refused r → x ≡ answerOf (refused r)
+    → Left m k c needed needed′ result scratch x result scratch
 unfolding resultAfter scratchAfter
 untouched {r = r} result scratch h e a = rw e (record { answer = a; result-words = rw (le-leb r 10 h); scratch-words = rw (le-leb r 10 h) })
 

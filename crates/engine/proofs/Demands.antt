@@ -101,8 +101,8 @@ module _ (k c : ℕ) (table result scratch : List ℕ) (r : Lookahead) (R S : Li
     answer-is : r ≡ answerOf (got a)
     answer-is = p .answer ∙ ap answerOf e
 
-    words-are : R ≡ resultAfter c (resultNeeded c table) result (got a)
-    words-are = p .result-words ∙ ap (resultAfter c (resultNeeded c table) result) e
+    words-are : R ≡ resultAfter k c (resultNeeded c table) result (got a)
+    words-are = p .result-words ∙ ap (resultAfter k c (resultNeeded c table) result) e
 
     -- set `number` of a kind
     gives : (kind number : ℕ) (P : Word → Type 0) → number < length (ofKind kind a) → IsSetOf P (setOf (ofKind kind a) number) → Gives k c r R kind number (setOf (ofKind kind a) number) P
@@ -111,7 +111,7 @@ module _ (k c : ℕ) (table result scratch : List ℕ) (r : Lookahead) (R S : Li
         let set = setOf (ofKind kind a) number in
         let part = asked k c table result scratch a e kind number h in
         let kept = asked-kept k c table result scratch a e kind number h in
-        rw (answer-is, words-are) (record { part = part; read = ap (setIn k) part ∙ written-read k (2 * c + 1) (a .width) set (kept .room) (kept .sorted) (kept .fit); holds = q })
+        rw (answer-is, words-are) (record { part = part; read = ap (setIn k) part ∙ written-read k (2 * c + 1) (a .width) set (kept .room) (kept .counted) (kept .sorted) (kept .fit); holds = q })
 
     rounds-are : take k (r .rounds) ≡ a .rounds
     unfolding answerOf

@@ -134,12 +134,12 @@ module _ {u : Setup} {k : ℕ} {words result scratch : List ℕ} (begun : Begun 
     settled f d beyond a =
         let x : Rest = record { productions = done .products; follows = d .sets; followRounds = f; positions = d .places } in
         let is : restFor u k words result ≡ got x = answered done f d in
-        let held : result₂ ≡ store (u .b) (u .w) (oldSets u result ++ (done .products ++ (d .sets ++ d .places))) (pastResult u result) =
+        let held : result₂ ≡ store k (u .b) (u .w) (oldSets u result ++ (done .products ++ (d .sets ++ d .places))) (pastResult u result) =
         d .row .turned .held .words
-        ∙ ap₂ (store (u .b) (u .w)) (ap (λ (A : State). A ++ (d .sets ++ d .places)) (firsts-after done) ∙ append-assoc (oldSets u result) (done .products) (d .sets ++ d .places)) past in
+        ∙ ap₂ (store k (u .b) (u .w)) (ap (λ (A : State). A ++ (d .sets ++ d .places)) (firsts-after done) ∙ append-assoc (oldSets u result) (done .products) (d .sets ++ d .places)) past in
         record {
           answer = a ∙ rw is;
-          sets = λ y e. let same : x ≡ y = got-inj (sym is ∙ e) in subst (λ (z : Rest). result₂ ≡ store (u .b) (u .w) (oldSets u result ++ (z .productions ++ (z .follows ++ z .positions))) (pastResult u result)) same held;
+          sets = λ y e. let same : x ≡ y = got-inj (sym is ∙ e) in subst (λ (z : Rest). result₂ ≡ store k (u .b) (u .w) (oldSets u result ++ (z .productions ++ (z .follows ++ z .positions))) (pastResult u result)) same held;
           result-beyond = turned-beyond (d .row .turned) ∙ past;
           scratch-beyond = beyond;
         }

@@ -33,7 +33,7 @@ each-sorted f each-none i h = absurd (not-suc-le-zero h)
 each-sorted f (each-more {a = x} {b = a} r rest) zero h = f x a r
 each-sorted f (each-more r rest) (suc i) h = each-sorted f rest i (le-of-suc-le-suc h)
 
-module _ (g : Grammar) (k c : ℕ) (ok : Accepted g) (few : g .t ≤ 4089) (k>0 : 1 ≤ k) (k<11 : k ≤ 10) (c>0 : 1 ≤ c) (a : Analysis) (e : work k c g ≡ got a) where
+module _ (g : Grammar) (k c : ℕ) (ok : Accepted g) (few : g .t ≤ 4089) (k>0 : 1 ≤ k) (k<11 : k ≤ 10) (c>0 : 1 ≤ c) (c<1025 : c ≤ 1024) (a : Analysis) (e : work k c g ≡ got a) where
   is : Analysed g k c a
   is = answers-right g k c ok k>0 c>0 a e
 
@@ -44,6 +44,7 @@ module _ (g : Grammar) (k c : ℕ) (ok : Accepted g) (few : g .t ≤ 4089) (k>0 
   unfolding w
   kept-one F proper room sorted = all-kept k w (2 * c + 1) F (λ i h. record {
     room = omega (arith, room i);
+    counted = omega (arith, room i);
     sorted = sorted i h;
     fit = λ z m. proper-fits k w z (width-pos (g .t + 5)) (width-le (g .t + 5) (omega arith)) k>0 k<11 (proper i z m);
   })

@@ -44,11 +44,11 @@ module _ (k c : ℕ) (g : Grammar) (ok : Accepted g) (k>0 : 1 ≤ k) (c>0 : 1 �
   unfolding answerOf resultAfter scratchAfter
   worked z = by (work k c g) refl (ran .answer)
     where
-      by : (m : Answer Analysis) → work k c g ≡ m → r ≡ answerOf m → Left m c N M result scratch r result′ (wiped M scratch′)
+      by : (m : Answer Analysis) → work k c g ≡ m → r ≡ answerOf m → Left m k c N M result scratch r result′ (wiped M scratch′)
       by (refused e) w a = absurd (let n : r .refusal ≡ e = ap (λ (x : Lookahead). x .refusal) a in let q = only-eleven g k c ok k>0 c>0 e w in omega arith)
       by (got x) w a = record {
         answer = a;
-        result-words = ran .sets x w ∙ ap (store (2 * c + 1) (x .width) (setsOf x)) (wiped-beyond N result);
+        result-words = ran .sets x w ∙ ap (store k (2 * c + 1) (x .width) (setsOf x)) (wiped-beyond N result);
         scratch-words = scratch-wiped;
       }
 
@@ -56,7 +56,7 @@ module _ (k c : ℕ) (g : Grammar) (ok : Accepted g) (k>0 : 1 ≤ k) (c>0 : 1 �
   unfolding answerOf resultAfter scratchAfter
   gave-up z = by (work k c g) refl (ran .answer)
     where
-      by : (m : Answer Analysis) → work k c g ≡ m → r ≡ answerOf m → Left m c N M result scratch r (wiped N result′) (wiped M scratch′)
+      by : (m : Answer Analysis) → work k c g ≡ m → r ≡ answerOf m → Left m k c N M result scratch r (wiped N result′) (wiped M scratch′)
       by (refused e) w a = record {
         answer = a;
         result-words = wiped-again N result result′ (ran .result-beyond) ∙ rw (late e w);

@@ -48,9 +48,9 @@ abbrev pub wiped : ℕ → List ℕ → List ℕ
 wiped needed ws = replicate needed 0 ++ drop needed ws
 
 -- The result: refusals 1 to 10 leave it as it came, 11 and 12 wipe what is needed; else it begins with the sets, in 2c + 1 words each.
-unfoldable pub resultAfter : (c needed : ℕ) → List ℕ → Answer Analysis → List ℕ
-resultAfter c needed ws (refused r) = cond (leb r 10) ws (wiped needed ws)
-resultAfter c needed ws (got a) = store (2 * c + 1) (a .width) (setsOf a) (drop needed ws)
+unfoldable pub resultAfter : (k c needed : ℕ) → List ℕ → Answer Analysis → List ℕ
+resultAfter k c needed ws (refused r) = cond (leb r 10) ws (wiped needed ws)
+resultAfter k c needed ws (got a) = store k (2 * c + 1) (a .width) (setsOf a) (drop needed ws)
 
 -- The scratch: refusals 1 to 10 leave it as it came; else what is needed is wiped.
 unfoldable pub scratchAfter : (needed : ℕ) → List ℕ → Answer Analysis → List ℕ
@@ -58,15 +58,15 @@ scratchAfter needed ws (refused r) = cond (leb r 10) ws (wiped needed ws)
 scratchAfter needed ws (got a) = wiped needed ws
 
 -- What stands after work with the answer m: the record r, and the words of the two buffers, of which so many were needed.
-pub record Left (m : Answer Analysis) (c needed needed′ : ℕ) (result scratch : List ℕ) (r : Lookahead) (result′ scratch′ : List ℕ) : Type 0 where
+pub record Left (m : Answer Analysis) (k c needed needed′ : ℕ) (result scratch : List ℕ) (r : Lookahead) (result′ scratch′ : List ℕ) : Type 0 where
   pub answer : r ≡ answerOf m
-  pub result-words : result′ ≡ resultAfter c needed result m
+  pub result-words : result′ ≡ resultAfter k c needed result m
   pub scratch-words : scratch′ ≡ scratchAfter needed′ scratch m
 
 -- What the call promises, for every input: its answer and every lent word are those of the analysis.
 abbrev pub Promised : (k c : ℕ) (table result scratch : List ℕ) (r : Lookahead) (result′ scratch′ : List ℕ) → Type 0
 Promised k c table result scratch r result′ scratch′ =
-    Left (analyse k c table (length result) (length scratch)) c (resultNeeded c table) (scratchNeeded c table) result scratch r result′ scratch′
+    Left (analyse k c table (length result) (length scratch)) k c (resultNeeded c table) (scratchNeeded c table) result scratch r result′ scratch′
 
 -- The sets of a kind.
 unfoldable pub ofKind : ℕ → Analysis → State

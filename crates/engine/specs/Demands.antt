@@ -36,7 +36,7 @@ pub record Demand1 (k c : ℕ) (table result scratch : List ℕ) (r : Lookahead)
 -- Asking the words that a call left for a set gives the words of this one, which the set operations read as it (so they never refuse it 13);
 -- and it holds what P says, and nothing else.
 pub record Gives (k c : ℕ) (r : Lookahead) (words : List ℕ) (kind number : ℕ) (set : List Str) (P : Word → Type 0) : Type 0 where
-  pub part : setPart kind number (r .n) (r .p) (r .q) c words ≡ setWords (2 * c + 1) (r .width) set
+  pub part : setPart kind number (r .n) (r .p) (r .q) c words ≡ setWords k (2 * c + 1) (r .width) set
   pub read : setIn k (setPart kind number (r .n) (r .p) (r .q) c words) ≡ good (widthFor (r .width) set) set
   pub holds : IsSetOf P set
 

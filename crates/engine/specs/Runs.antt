@@ -70,6 +70,6 @@ restFor u k words result = restOf (room u) k (grammarIn u words) (oldSets u resu
 pub record RestRan (u : Setup) (k q : ℕ) (rounds words result scratch : List ℕ) (r : Lookahead) (result′ scratch′ : List ℕ) : Type 0 where
   pub answer : r ≡ restAnswer u q rounds (restFor u k words result)
   pub sets : (x : Rest) → restFor u k words result ≡ got x
-      → result′ ≡ store (u .b) (u .w) (oldSets u result ++ (x .productions ++ (x .follows ++ x .positions))) (pastResult u result)
+      → result′ ≡ store k (u .b) (u .w) (oldSets u result ++ (x .productions ++ (x .follows ++ x .positions))) (pastResult u result)
   pub result-beyond : pastResult u result′ ≡ pastResult u result
   pub scratch-beyond : pastScratch u scratch′ ≡ pastScratch u scratch

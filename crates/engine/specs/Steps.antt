@@ -58,13 +58,13 @@ onGrammar k c g result scratch = demand 10 (leb (resultNeeds c g) result && leb 
 -- the work was done in buffers whose needed words were zero: the answer is its record, the sets stand in the result, and nothing past the needed words has changed
 pub record Ran (k c : ℕ) (g : Grammar) (result scratch : List ℕ) (r : Lookahead) (result′ scratch′ : List ℕ) : Type 0 where
   pub answer : r ≡ answerOf (work k c g)
-  pub sets : (a : Analysis) → work k c g ≡ got a → result′ ≡ store (2 * c + 1) (a .width) (setsOf a) (drop (resultNeeds c g) result)
+  pub sets : (a : Analysis) → work k c g ≡ got a → result′ ≡ store k (2 * c + 1) (a .width) (setsOf a) (drop (resultNeeds c g) result)
   pub result-beyond : drop (resultNeeds c g) result′ ≡ drop (resultNeeds c g) result
   pub scratch-beyond : drop (scratchNeeds c g) scratch′ ≡ drop (scratchNeeds c g) scratch
 
 -- after the work on a grammar, and after the test for its words too
 abbrev pub Worked : (k c : ℕ) → Grammar → (result scratch : List ℕ) → Lookahead → (result′ scratch′ : List ℕ) → Type 0
-Worked k c g result scratch r result′ scratch′ = Left (work k c g) c (resultNeeds c g) (scratchNeeds c g) result scratch r result′ scratch′
+Worked k c g result scratch r result′ scratch′ = Left (work k c g) k c (resultNeeds c g) (scratchNeeds c g) result scratch r result′ scratch′
 
 abbrev pub Asked : (k c : ℕ) → Grammar → (result scratch : List ℕ) → Lookahead → (result′ scratch′ : List ℕ) → Type 0
-Asked k c g result scratch r result′ scratch′ = Left (onGrammar k c g (length result) (length scratch)) c (resultNeeds c g) (scratchNeeds c g) result scratch r result′ scratch′
+Asked k c g result scratch r result′ scratch′ = Left (onGrammar k c g (length result) (length scratch)) k c (resultNeeds c g) (scratchNeeds c g) result scratch r result′ scratch′

@@ -45,8 +45,8 @@ module _ (k c : ℕ) (table : List ℕ) (result scratch : ℕ) where
   analyse-none bytes = sym (one-answer k c table 0 0 _ (fewer-words _ (answers-all k c table result scratch bytes)))
 
 -- a refusal of 1 to 10 leaves no words as it found them
-module _ (c needed : ℕ) (r : ℕ) where
-  none-left : resultAfter c needed [] (refused (tooFew r)) ≡ []
+module _ (k c needed : ℕ) (r : ℕ) where
+  none-left : resultAfter k c needed [] (refused (tooFew r)) ≡ []
   unfolding resultAfter
   none-left = rw (few-at-most r)
 
@@ -64,10 +64,10 @@ module _ {k c : ℕ} {table result scratch answer : List ℕ} where
         bytes = bytes;
         wrote = told-few h (ap (λ (x : Lookahead). x .refusal) (p .answer) ∙ ap (λ (m : Answer Analysis). answerOf m .refusal) none);
         result-words =
-            ap (λ (l : List ℕ). l ++ result) (p .result-words ∙ ap (resultAfter c (resultNeeded c table) []) none ∙ none-left c (resultNeeded c table) r)
+            ap (λ (l : List ℕ). l ++ result) (p .result-words ∙ ap (resultAfter k c (resultNeeded c table) []) none ∙ none-left k c (resultNeeded c table) r)
             ∙ rw (lt-ltb (length answer) 16 h);
         scratch-words =
-            ap (λ (l : List ℕ). l ++ scratch) (p .scratch-words ∙ ap (scratchAfter (scratchNeeded c table) []) none ∙ none-worked c (scratchNeeded c table) r)
+            ap (λ (l : List ℕ). l ++ scratch) (p .scratch-words ∙ ap (scratchAfter (scratchNeeded c table) []) none ∙ none-worked k c (scratchNeeded c table) r)
             ∙ rw (lt-ltb (length answer) 16 h);
       }
 

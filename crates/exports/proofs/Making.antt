@@ -52,7 +52,7 @@ module _ (k : ℕ) (a b : List ℕ) where
   unfolding unionWords unionAnswer twoSets
   union-none = by (outside k) (none || true) (behind 0) (commonWidth (setIn k a) (setIn k b)) (unionSet k a b) (or-true none)
     where
-      by : (out empty : Bool) (t : Tests) (w : ℕ) (set : List Str) → empty ≡ true → written (outcome (1 if out else 10 if empty else t)) w set [] ≡ []
+      by : (out empty : Bool) (t : Tests) (w : ℕ) (set : List Str) → empty ≡ true → written (outcome (1 if out else 10 if empty else t)) k w set [] ≡ []
       by true empty t w set e = refl
       by false empty t w set e = rw e
 

@@ -30,5 +30,5 @@ answerFor k c table result scratch = answerOf (worked k c table result scratch)
 pub record Called (k c : ℕ) (table result scratch answer : List ℕ) (r : ℕ) (result′ scratch′ answer′ : List ℕ) : Type 0 where
   pub wrote : Wrote 16 (answerFor k c table result scratch .refusal) (recordWords (answerFor k c table result scratch)) answer r answer′
   pub bytes : Bytes table
-  pub result-words : result′ ≡ unlessFew 16 answer result (resultAfter c (resultNeeded c table) result (worked k c table result scratch))
+  pub result-words : result′ ≡ unlessFew 16 answer result (resultAfter k c (resultNeeded c table) result (worked k c table result scratch))
   pub scratch-words : scratch′ ≡ unlessFew 16 answer scratch (scratchAfter (scratchNeeded c table) scratch (worked k c table result scratch))

@@ -13,9 +13,9 @@ use Rattle.k_tuple.specs.Strings.{eps}
 use Rattle.k_tuples.specs.States.{State, sameSets}
 use Rattle.k_tuples.specs.Work.{Answer, refused, got, _>>=_, Settling, settle}
 use Rattle.k_tuples.proofs.Lists.{drop-replicate}
-use Rattle.blocks.specs.Stores.{Turned}
-use Rattle.blocks.proofs.Stores.{raised}
-use Rattle.blocks.proofs.Fronts.{front-start, front-then, front-all}
+use Rattle.blocks.specs.Stores.{Turned, Raised}
+use Rattle.blocks.proofs.Stores.{turned-store, turned-sets, turned-beyond}
+use Rattle.blocks.proofs.Fronts.{front-start, front-same, front-then, front-all}
 use Rattle.first_theory.specs.Compute.{Worked, round, level, levels, first}
 use Rattle.first.specs.declared.Setup.{Setup}
 use Rattle.first.specs.declared.round.Round.{Round}
@@ -23,7 +23,7 @@ use Rattle.first.specs.declared.round.Round.the-variants.{Same, Changed,
 use Rattle.first.specs.declared.Ending.{Ending}
 use Rattle.first.specs.declared.Ending.the-variants.{Settled, Refused}
 use Rattle.first.specs.declared.level.LevelRounds.{LevelRounds}
-use Rattle.first.specs.Steps.{resultSets, oldSets, room, Ready}
+use Rattle.first.specs.Steps.{resultSets, scratchSets, oldSets, room, Ready, ReadyBelow}
 use Rattle.first.specs.Rounds.{grammarIn, InResult, roundFull, roundTold, RoundDone, Rounded}
 use Rattle.first.specs.Levels.{Moved, LevelEnds, Levelled, LevelsRun}
 
@@ -58,19 +58,47 @@ module _ {u : Setup} {at k : ℕ} {result scratch result′ scratch′ : List �
   pub moved-then : {j : ℕ} {result″ scratch″ : List ℕ} → Moved u at j result′ scratch′ result″ scratch″ → Moved u at j result scratch result″ scratch″
   moved-then t = record { in-result = front-then (m .in-result) (t .in-result); in-scratch = front-then (m .in-scratch) (t .in-scratch) }
 
--- sets at k are sets at a greater level
-pub ready-raised : {u : Setup} {k : ℕ} (j : ℕ) {result scratch : List ℕ} → k ≤ j → j ≤ 10 → Ready u k result scratch → Ready u j result scratch
-ready-raised j h few r = record {
-  result-store = raised h (r .result-store);
-  scratch-store = raised h (r .scratch-store);
-  work = r .work;
-  some = r .some;
-  least = omega (arith, r .least);
-  most = few;
-  wide = r .wide;
-  narrow = r .narrow;
-  slots = r .slots;
-}
+-- the numbers of all sets made anew at k
+module _ {u : Setup} {k : ℕ} {result scratch result₁ scratch₁ : List ℕ} (r : ReadyBelow u k result scratch) (f : Raised k (u .b) (u .rsets) result result₁) (g : Raised k (u .b) (u .ssets) scratch scratch₁) where
+  result-raised : Turned k (u .w) (u .b) (u .rsets) (resultSets u result) result result₁
+  result-raised = f .step (r .j) (u .w) (r .low) (r .ready .result-store)
+
+  scratch-raised : Turned k (u .w) (u .b) (u .ssets) (scratchSets u scratch) scratch scratch₁
+  scratch-raised = g .step (r .j) (u .w) (r .low) (r .ready .scratch-store)
+
+  pub ready-raised : Ready u k result₁ scratch₁
+  ready-raised = record {
+    result-store = turned-store result-raised;
+    scratch-store = turned-store scratch-raised;
+    work = r .ready .work;
+    some = r .ready .some;
+    least = omega (arith, r .ready .least, r .low);
+    most = r .high;
+    wide = r .ready .wide;
+    narrow = r .ready .narrow;
+    slots = r .ready .slots;
+  }
+
+  moved-raised : (at : ℕ) → Moved u at k result scratch result₁ scratch₁
+  moved-raised at = record { in-result = front-same result-raised; in-scratch = front-same scratch-raised }
+
+  -- and the rounds after them
+  pub level-raised : {at : ℕ} {result₂ scratch₂ : List ℕ} {e : Ending} (words : List ℕ)
+      → Levelled u at k (level (room u) (grammarIn u words) k (oldSets u result₁)) e result₁ scratch₁ result₂ scratch₂
+      → Levelled u at k (level (room u) (grammarIn u words) k (oldSets u result)) e result scratch result₂ scratch₂
+  level-raised {at} {result₂} {scratch₂} {e} words m =
+      let same : oldSets u result₁ ≡ oldSets u result = ap (take (u .n)) (turned-sets result-raised) in
+      let answer : State → Answer Settling = λ F. level (room u) (grammarIn u words) k F in
+      record {
+        ends = by e (subst (λ (F : State). LevelEnds u at k (answer F) e result₁ scratch₁ result₂ scratch₂) same (m .ends));
+        result-beyond = m .result-beyond ∙ turned-beyond result-raised;
+        scratch-beyond = m .scratch-beyond ∙ turned-beyond scratch-raised;
+      }
+    where
+      by : (e : Ending) → LevelEnds u at k (level (room u) (grammarIn u words) k (oldSets u result)) e result₁ scratch₁ result₂ scratch₂
+          → LevelEnds u at k (level (room u) (grammarIn u words) k (oldSets u result)) e result scratch result₂ scratch₂
+      by (Settled n) h = (h .0, moved-then (moved-raised at) (h .1))
+      by (Refused n) h = h
 
 -- ---- the rounds of a level
 
@@ -212,10 +240,10 @@ run-start {u} at k words {result₀} ready =
 
 module _ {u : Setup} {at k : ℕ} {words result₀ scratch₀ : List ℕ} {i : ℕ} {rounds : List ℕ} {result scratch : List ℕ} (run : Running u at k words result₀ scratch₀ i rounds result scratch) where
   -- ready for the next level
-  pub run-ready : Ready u 1 result₀ scratch₀ → (number : ℕ) → number ≡ suc i → number ≤ 10 → Ready u number result scratch
+  pub run-ready : Ready u 1 result₀ scratch₀ → (number : ℕ) → number ≡ suc i → number ≤ 10 → ReadyBelow u number result scratch
   run-ready ready number same few =
       let most = reached-most i in
-      ready-raised number (omega (arith, most)) few (moved-ready (run .moved) ready (reached-least i) (omega (arith, most)))
+      record { j = reached i; low = omega (arith, most); high = few; ready = moved-ready (run .moved) ready (reached-least i) (omega (arith, most)) }
 
   -- no level more
   pub run-end : 1 ≤ k → k ≤ i → LevelsRun u at k (levelsFrom u words k 0 (oldSets u result₀)) (record { refusal = 0; rounds = rounds }) result₀ scratch₀ result scratch

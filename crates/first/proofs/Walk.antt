@@ -13,6 +13,7 @@ use Rattle.k_tuple.specs.Strings.{Str, eps, ones}
 use Rattle.k_tuples.specs.Sets.{Sorted, joinSets, allComplete}
 use Rattle.k_tuples.specs.States.{State, setOf}
 use Rattle.k_tuples.specs.Words.{grown, isFull}
+use Rattle.k_tuples.proofs.Words.{words-room}
 use Rattle.k_tuples.specs.Blocks.{Kept, IsStored}
 use Rattle.k_tuples.specs.Work.{Answer, refused, got, _>>=_, within}
 use Rattle.k_tuples.specs.declared.set.Grown.{Grown}
@@ -53,7 +54,7 @@ module _ (u : Setup) (new : List Str) where
 
 -- a set of the buffers has room
 pub kept-within : (u : Setup) {k : ℕ} {a : List Str} → Kept k (u .w) (u .b) a → within (room u) a ≡ got a
-kept-within u {a = a} h = within-fits u a (omega (arith, h .room))
+kept-within u {a = a} h = within-fits u a (words-room (length a) (u .b) (h .room) (h .counted))
 
 -- buffers that hold sets again
 pub still-ready : {u : Setup} {k : ℕ} {result scratch result′ scratch′ : List ℕ} → Ready u k result scratch

@@ -52,6 +52,13 @@ pub record Ready (u : Setup) (k : ℕ) (result scratch : List ℕ) : Type 0 wher
   pub narrow : u .w ≤ 12
   pub slots : u .t + 5 < ones (u .w)
 
+-- buffers that are ready at some level up to k
+pub record ReadyBelow (u : Setup) (k : ℕ) (result scratch : List ℕ) : Type 0 where
+  pub j : ℕ
+  pub low : j ≤ k
+  pub high : k ≤ 10
+  pub ready : Ready u j result scratch
+
 -- a set of the result that is free for the product in hand
 pub record Free (u : Setup) (at : ℕ) : Type 0 where
   pub after : u .n ≤ at

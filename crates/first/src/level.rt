@@ -7,7 +7,7 @@ ghost use Rattle.k_tuple.specs.Strings.{eps as epsStr};
 ghost use Rattle.k_tuples.specs.Blocks.{IsStored};
 ghost use Rattle.blocks.specs.Stores.{Turned};
 ghost use Rattle.first_theory.specs.Compute.{level, levels, first};
-ghost use Rattle.first.specs.Steps.{Ready, Free, resultSets, oldSets, room};
+ghost use Rattle.first.specs.Steps.{Ready, ReadyBelow, Free, resultSets, oldSets, room};
 ghost use Rattle.first.specs.Rounds.{Rules, grammarIn};
 ghost use Rattle.first.specs.Levels.{Levelled, LevelsRun};
 use crate::Ending;
@@ -48,6 +48,26 @@ pub fn first_level(
     Ending::Refused(12)
 }
 
+// The rounds of level k, from the sets of a lower level: what is unfinished at k is counted first.
+fn next_level(
+    result: &mut [u64],
+    scratch: &mut [u64],
+    u: Setup,
+    at: usize,
+    k: u64,
+    words: &[u16],
+) -> Ending
+    requires { ⌜ (ReadyBelow u k (now result) (now scratch) × Free u at) × Rules u (now words) ⌝ }
+    ensures { λ r. ⌜ Levelled u at k (level (room u) (grammarIn u (now (words .entry))) k (oldSets u (now (result .entry)))) r (now (result .entry)) (now (scratch .entry)) (now (result .exit)) (now (scratch .exit)) ⌝ }
+{
+    if k == 1 {
+        return first_level(result, scratch, u, at, k, words);
+    }
+    blocks::raise(result, u.b, u.rsets, k);
+    blocks::raise(scratch, u.b, u.ssets, k);
+    first_level(result, scratch, u, at, k, words)
+}
+
 // Makes the set of each nonterminal {ε}.
 fn start_sets(result: &mut [u64], u: Setup)
     requires { ⌜ (IsStored 1 (u .w) (u .b) (u .rsets) (now result) × (3 ≤ u .b)) × (((1 ≤ u .w) × (u .w ≤ 12)) × (u .n ≤ u .rsets)) ⌝ }
@@ -56,7 +76,7 @@ fn start_sets(result: &mut [u64], u: Setup)
     let n = u.n;
     let mut i = 0;
     while i < n {
-        blocks::put_single(result, eps(u.w), u.b, u.rsets, i);
+        blocks::put_single(result, eps(u.w), u.b, u.rsets, i, 1);
         i += 1;
     }
 }
@@ -90,7 +110,7 @@ fn run_levels(
     let mut rounds = [0; 10];
     let mut i = 0;
     while i < k {
-        let l = first_level(result, scratch, u, at, level_after(i), words);
+        let l = next_level(result, scratch, u, at, level_after(i), words);
         match l {
             Ending::Refused(e) => {
                 let none = [0; 10];

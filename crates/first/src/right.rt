@@ -106,7 +106,7 @@ fn join_run(scratch: &mut [u64], result: &[u64], u: Setup, at: usize, k: u64, pa
     let b = u.b;
     let x = at * b;
     let x_end = x + b;
-    let one = blocks::single(run_string(part, k, u.w));
+    let one = blocks::single(run_string(part, k, u.w), k);
     blocks::join_into(scratch, &result[x..x_end], &one, b, u.ssets, u.n, k)
 }
 
@@ -188,7 +188,7 @@ fn put_run(result: &mut [u64], scratch: &mut [u64], u: Setup, at: usize, k: u64,
     requires { ⌜ (Ready u k (now result) (now scratch) × Free u at) × ((1 ≤ length (now part)) × PartIn u (runPart (map half (now part)))) ⌝ }
     ensures { λ _. ⌜ Placed u at k (partSet k (oldSets u (now (result .entry))) (runPart (map half (now (part .entry))))) (now (result .entry)) (now (scratch .entry)) (now (result .exit)) (now (scratch .exit)) ⌝ }
 {
-    blocks::put_single(result, run_string(part, k, u.w), u.b, u.rsets, at);
+    blocks::put_single(result, run_string(part, k, u.w), u.b, u.rsets, at, k);
 }
 
 // Makes set at of the result the set of a part.
@@ -236,6 +236,6 @@ pub fn first_of_right_side(
     if 0 < right.len() {
         return first_of_parts(result, scratch, u, at, k, right);
     }
-    blocks::put_single(result, eps(u.w), u.b, u.rsets, at);
+    blocks::put_single(result, eps(u.w), u.b, u.rsets, at, k);
     false
 }

@@ -27,7 +27,7 @@ fn add_production(
     if first_of_right_side(result, scratch, u, at, k, right) {
         return true;
     }
-    let grown = blocks::unite_block(scratch, result, u.b, u.ssets, u.rsets, at, left);
+    let grown = blocks::unite_block(scratch, result, u.b, u.ssets, u.rsets, at, left, k);
     is_full(grown)
 }
 

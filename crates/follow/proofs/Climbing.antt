@@ -1,10 +1,10 @@
 -- The rounds, up to the first that adds nothing. The invariant is `Climbing`: `left` rounds more after `done`, from the FOLLOW sets as they
 -- stand, end as all the rounds do. Assumes nothing.
 use Prim.Native.Nat.{ℕ, suc, _+_, _-_, _*_, _≤_, _<_}
-use native.Mathlib.Nat.{mul-le-mul-left}
+use native.Mathlib.Nat.{le-refl, mul-le-mul-left}
 use native.Mathlib.Numerals.{add-one}
 use native.Mathlib.Omega.{arith}
-use mathlib.Core.Path.{_≡_, refl, sym, ap, ap₂, _∙_}
+use mathlib.Core.Path.{_≡_, refl, sym, ap, ap₂, _∙_, subst}
 use mathlib.Core.Bool.{Bool, true, false}
 use mathlib.Core.List.{List}
 use lib.ListN.{length}
@@ -13,6 +13,7 @@ use Rattle.k_tuples.specs.Words.{isFull}
 use Rattle.k_tuples.specs.Work.{Answer, got, Settling, settle}
 use Rattle.k_tuples.specs.declared.set.Grown.{Grown}
 use Rattle.k_tuples.specs.declared.set.Grown.the-variants.{Added, Same, Full}
+use Rattle.k_tuples.proofs.Words.{room-words}
 use Rattle.k_tuples.proofs.Blocks.{in-sets, part-room}
 use Rattle.blocks.proofs.Stores.{turned-beyond, turned-length}
 use Rattle.first.specs.declared.Setup.{Setup}
@@ -35,8 +36,11 @@ told-added false e = refl
 pub rounds-fit : {u : Setup} {k : ℕ} {words result scratch : List ℕ} → Running u k words result scratch → u .n * room u + 1 ≤ length scratch
 rounds-fit {u} {scratch = scratch} run =
     let s = run .ready .scratch-store in
-    let small : room u ≤ u .b = omega arith in
+    let small : room u ≤ u .b = omega (arith, room-words (room u) (u .b) (le-refl (room u)) (omega (arith, run .ready .some))) in
     omega (arith, part-room (s .stored) (u .n) (in-sets s (run .ready .work)), mul-le-mul-left (u .n) small, run .ready .some)
+
+pub rounds-fit-by : {u : Setup} {k m : ℕ} {words result scratch : List ℕ} → Running u k words result scratch → m ≡ room u → u .n * m + 1 ≤ length scratch
+rounds-fit-by {u} {scratch = scratch} run e = subst (λ (n : ℕ). u .n * n + 1 ≤ length scratch) (sym e) (rounds-fit run)
 
 module _ (u : Setup) (k : ℕ) (words result₀ scratch₀ : List ℕ) where
   abbrev round : State → Answer State
@@ -53,13 +57,13 @@ module _ (u : Setup) (k : ℕ) (words result₀ scratch₀ : List ℕ) where
     pub to-come : settle round 11 left done sets ≡ answer
 
   module _ (run : Running u k words result₀ scratch₀) where
-    pub climb-start : Climbing (u .n * room u + 1) 0 result₀ scratch₀
-    climb-start = record {
+    pub climb-start : {m : ℕ} → m ≡ room u → Climbing (u .n * m + 1) 0 result₀ scratch₀
+    climb-start {m} e = subst (λ (n : ℕ). Climbing (u .n * n + 1) 0 result₀ scratch₀) (sym e) (record {
       sets = followSets u result₀;
       stands = stands-start (run .suffixed .grammatical) (run .ready) (run .copied);
       sum = omega arith;
       to-come = ap (λ (n : ℕ). settle round 11 n 0 (followSets u result₀)) (add-one (u .n * room u));
-    }
+    })
 
     module _ {left done : ℕ} {result scratch : List ℕ} (h : Climbing left done result scratch) where
       -- as long as at entry

@@ -43,12 +43,12 @@ module _ {u : Setup} {k : ℕ} {words result₀ scratch₀ : List ℕ} (ready : 
       ready₁ : Ready u k result₁ scratch₁
       ready₁ = still-ready ready (turned-store (row₁ .turned)) (s .done e .store)
 
-      pub suffixes-begin : Begins u result₁ scratch₁
-      suffixes-begin = record { k = k; ready = ready₁; room = omega (arith, g .places); first = g .rules .ranged .start }
+      pub suffixes-begin : Begins u k result₁ scratch₁
+      suffixes-begin = record { ready = ready₁; room = omega (arith, g .places); first = g .rules .ranged .start }
 
-      module _ {result₂ scratch₂ : List ℕ} (b : Started u result₁ scratch₁ result₂ scratch₂) where
+      module _ {result₂ scratch₂ : List ℕ} (b : Started u k result₁ scratch₁ result₂ scratch₂) where
         stands₂ : Stands u k (firstSets u result₁) (start (u .n) (u .start)) (placeSets u result₁) result₁ scratch₁ result₂ scratch₂
-        stands₂ = b .step k ready₁
+        stands₂ = b .step ready₁
 
         row₂ : InRow u k (firstSets u result₀) (start (u .n) (u .start)) Z result₀ result₂
         row₂ = row-over row₁ (stands₂ .row)

@@ -93,34 +93,34 @@ marker-fits {u} r =
     let some : 0 < ones (u .w) = omega (arith, r .slots) in
     record { well = rw (le-leb 1 (u .w) (r .wide), le-leb (u .w) 12 (r .narrow), lt-ltb 0 (ones (u .w)) some); some = omega arith; short = r .least }
 
-module _ {u : Setup} {result scratch : List ℕ} (begins : Begins u result scratch) {scratch₁ : List ℕ} (cleared : EmptiedFirst (u .b) (u .ssets) (u .n) scratch scratch₁) where
-  pub clear-string : {t : Terminals} → t ≡ packed (u .w) marker → WithString (u .b) (u .ssets) t scratch₁
+module _ {u : Setup} {k : ℕ} {result scratch : List ℕ} (begins : Begins u k result scratch) {scratch₁ : List ℕ} (cleared : EmptiedFirst (u .b) (u .ssets) (u .n) scratch scratch₁) where
+  pub clear-string : {t : Terminals} → t ≡ packed (u .w) marker → WithString k (u .b) (u .ssets) t scratch₁
   clear-string e =
       let r = begins .ready in
-      record { k = begins .k; width = u .w; z = marker; store = turned-store (cleared .step (begins .k) (u .w) (r .scratch-store)); is = e; fits = marker-fits r }
+      record { width = u .w; z = marker; store = turned-store (cleared .step k (u .w) (r .scratch-store)); is = e; fits = marker-fits r }
 
-  module _ {t : Terminals} (e : t ≡ packed (u .w) marker) {scratch₂ : List ℕ} (put : PutSingle (u .b) (u .ssets) (u .start) t scratch₁ scratch₂) where
-    started-scratch : (k : ℕ) → Ready u k result scratch → Turned k (u .w) (u .b) (u .ssets) (start (u .n) (u .start) ++ drop (u .n) (scratchSets u scratch)) scratch scratch₂
+  module _ {t : Terminals} (e : t ≡ packed (u .w) marker) {scratch₂ : List ℕ} (put : PutSingle k (u .b) (u .ssets) (u .start) t scratch₁ scratch₂) where
+    started-scratch : Ready u k result scratch → Turned k (u .w) (u .b) (u .ssets) (start (u .n) (u .start) ++ drop (u .n) (scratchSets u scratch)) scratch scratch₂
     unfolding start
-    started-scratch k r =
+    started-scratch r =
         let c = cleared .step k (u .w) (r .scratch-store) in
         subst (λ (F : State). Turned k (u .w) (u .b) (u .ssets) F scratch scratch₂)
         (set-append-left (replicate (u .n) []) (drop (u .n) (scratchSets u scratch)) (u .start) (marker ∷ []) (rw length-replicate (begins .first)))
-        (turned-then c (λ R. set R (u .start) (marker ∷ [])) (put .step k (u .w) marker (turned-store c) e (marker-fits r)))
+        (turned-then c (λ R. set R (u .start) (marker ∷ [])) (put .step (u .w) marker (turned-store c) e (marker-fits r)))
 
     pub started-laid : Laid u result scratch₂
     started-laid = record {
-      k = begins .k;
+      k = k;
       result-store = begins .ready .result-store;
-      scratch-store = turned-store (started-scratch (begins .k) (begins .ready));
+      scratch-store = turned-store (started-scratch (begins .ready));
       room = begins .room;
       work = omega (arith, begins .ready .work);
     }
 
-    pub started : {result′ : List ℕ} → CopiedFollow u result scratch₂ result′ → Started u result scratch result′ scratch₂
+    pub started : {result′ : List ℕ} → CopiedFollow u result scratch₂ result′ → Started u k result scratch result′ scratch₂
     started {result′} c = record {
-      step = λ k r.
-          let s = started-scratch k r in
+      step = λ r.
+          let s = started-scratch r in
           let F = start (u .n) (u .start) in
           let copy : take (u .n) (scratchSets u scratch₂) ≡ F = ap (take (u .n)) (turned-sets s) ∙ take-at F (drop (u .n) (scratchSets u scratch)) (u .n) (start-length (u .n) (u .start)) in
           record {

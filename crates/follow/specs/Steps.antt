@@ -95,15 +95,14 @@ pub record CopiedFollow (u : Setup) (result scratch result′ : List ℕ) : Type
       → Turned k (u .w) (u .b) (u .rsets) (firstSets u result ++ (take (u .n) (scratchSets u scratch) ++ placeSets u result)) result result′
 
 -- buffers to begin with, at some k
-pub record Begins (u : Setup) (result scratch : List ℕ) : Type 0 where
-  pub k : ℕ
+pub record Begins (u : Setup) (k : ℕ) (result scratch : List ℕ) : Type 0 where
   pub ready : Ready u k result scratch
   pub room : placesAt u ≤ u .rsets
   pub first : u .start < u .n
 
--- FOLLOW has the sets at the start, at every k
-pub record Started (u : Setup) (result scratch result′ scratch′ : List ℕ) : Type 0 where
-  pub step : (k : ℕ) → Ready u k result scratch → Stands u k (firstSets u result) (start (u .n) (u .start)) (placeSets u result) result scratch result′ scratch′
+-- FOLLOW has the sets at the start
+pub record Started (u : Setup) (k : ℕ) (result scratch result′ scratch′ : List ℕ) : Type 0 where
+  pub step : Ready u k result scratch → Stands u k (firstSets u result) (start (u .n) (u .start)) (placeSets u result) result scratch result′ scratch′
 
 -- ---- an equation
 

@@ -18,11 +18,11 @@ fn copy_follow(result: &mut [u64], scratch: &[u64], u: Setup)
 }
 
 // Makes the FOLLOW sets those at the start.
-pub fn start_follow(result: &mut [u64], scratch: &mut [u64], u: Setup)
-    requires { ⌜ Begins u (now result) (now scratch) ⌝ }
-    ensures { λ _. ⌜ Started u (now (result .entry)) (now (scratch .entry)) (now (result .exit)) (now (scratch .exit)) ⌝ }
+pub fn start_follow(result: &mut [u64], scratch: &mut [u64], u: Setup, k: u64)
+    requires { ⌜ Begins u k (now result) (now scratch) ⌝ }
+    ensures { λ _. ⌜ Started u k (now (result .entry)) (now (scratch .entry)) (now (result .exit)) (now (scratch .exit)) ⌝ }
 {
     blocks::clear_first(scratch, u.b, u.ssets, u.n);
-    blocks::put_single(scratch, end(u.w), u.b, u.ssets, u.start);
+    blocks::put_single(scratch, end(u.w), u.b, u.ssets, u.start, k);
     copy_follow(result, scratch, u);
 }

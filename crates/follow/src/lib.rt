@@ -25,7 +25,7 @@ fn follow_sets(result: &mut [u64], scratch: &mut [u64], u: Setup, k: u64, words:
     if make_suffixes(result, scratch, u, k, words) {
         return Ending::Refused(11);
     }
-    start_follow(result, scratch, u);
+    start_follow(result, scratch, u, k);
     follow_rounds(result, scratch, u, k, words)
 }
 

@@ -9,6 +9,7 @@ use crate::walk::start;
 use first::Ending;
 use first::Setup;
 use k_tuples::set::Grown;
+use k_tuples::set::room;
 
 // Adds the join of the suffix set of position i and the source's FOLLOW to the target's, in the scratch.
 fn join_equation(
@@ -111,7 +112,7 @@ pub fn follow_rounds(
     requires { ⌜ Running u k (now words) (now result) (now scratch) ⌝ }
     ensures { λ r. ⌜ Ended u k (settle (takeAll (room u) k (oldSets u (now (result .entry))) (occurrences u (now (words .entry)))) 11 (suc (u .n * room u)) 0 (followSets u (now (result .entry)))) r (now (result .entry)) (now (scratch .entry)) (now (result .exit)) (now (scratch .exit)) ⌝ }
 {
-    let mut left = u.n * ((u.b - 1) / 2) + 1;
+    let mut left = u.n * room(u.b) + 1;
     let mut done: u64 = 0;
     while 0 < left {
         let g = follow_round(result, scratch, u, k, words);

@@ -2,29 +2,25 @@
 use mathlib.Core.Path.{_≡_, refl, sym, ap, ap₂, _∙_, subst}
 use mathlib.Core.Bool.{Bool, true, false, cond, _&&_, _||_, or-true}
 use mathlib.Core.List.{List, [], _∷_, _++_, map, append-nil, List·Memᴰ·head as here, List·Memᴰ·tail as there, List·Memᴰ·not-nil as not-nil}
-use mathlib.Core.Logic.{⊎-elim}
-use Prim.Native.Nat.{ℕ, zero, suc, _+_, _-_, _*_, _≤_, _<_, _^_, zero-le, suc-le-suc, Ordering·gt}
+use Prim.Native.Nat.{ℕ, zero, suc, _+_, _-_, _*_, _≤_, _<_, _^_}
 use native.Mathlib.Omega.{arith}
 use native.Mathlib.Nat.{le-refl}
 use native.Mathlib.Decide.{decLe}
 use lib.Seq.{take-all}
-use native.Mathlib.Numerals.{add-one}
 use borrow.Author.Tests.{le-leb, leb-true}
 use lib.Dec.{leb}
 use lib.ListN.{length, getD, take, drop, replicate, length-map, List·getD-map}
-use Rattle.k_tuple.specs.Strings.{Str, eps, slots, good, terminals, isEps, lengthOf, wellFormed, complete, cut, join, countField, widthField}
-use Rattle.k_tuple.specs.Order.{cmpSlots, cmp, _≺_}
+use Rattle.k_tuple.specs.Strings.{Str, eps, slots, good, terminals, isEps, lengthOf, wellFormed, complete, countField, widthField}
 use Rattle.k_tuple.specs.Packed.{WellFormed, Alike, packed, number-of, reads, widthIn, epsIn, completeIn}
 use Rattle.k_tuple.specs.declared.Terminals.{Terminals}
 use Rattle.k_tuple.proofs.Closed.{reads-packed}
 use Rattle.k_tuple.proofs.Held.{seen, itself, width-le}
 use Rattle.k_tuple.proofs.Round.{fine, decode-good}
-use Rattle.k_tuple.proofs.Order.{lt≢gt, lt≢eq}
 use Rattle.k_tuples.specs.declared.set.Grown.{Grown}
 use Rattle.k_tuples.specs.declared.set.Grown.the-variants.{Same, Full}
 use Rattle.k_tuples.specs.Sets.{_∈_, _⊆_, Sorted, inOrder, member}
 use Rattle.k_tuples.specs.Members.{before, rising, addAll, hasOf, pairsOf}
-use Rattle.k_tuples.specs.Words.{memberAt, encode, decode, roomOf, IsSet, Grew, AllWellFormed, AllJoinable, grown, grownFrom, isFull}
+use Rattle.k_tuples.specs.Words.{memberAt, decode, IsSet, Grew, AllWellFormed, AllJoinable, isFull}
 use Rattle.k_tuples.specs.Held.{strIn, strings, firstWidth}
 use Rattle.k_tuples.proofs.Joins.{incomplete-short}
 use Rattle.k_tuples.proofs.Tests.{passed}
@@ -33,20 +29,17 @@ use Rattle.k_tuples.proofs.Filling.{Filling}
 use Rattle.k_tuples.proofs.Sorted.{cases, place-member, inOrder-means, sorted-places}
 use Rattle.k_tuples.proofs.Words.{length-decode, getD-decode, rest-member}
 use Rattle.k_tuples.proofs.Inserting.{grew-idle}
+use Rattle.k_tuples.proofs.Lists.{map-drop}
+use Rattle.k_tuples.proofs.Unfinished.{before-length}
 use Rattle.k_tuples.proofs.Bridge.{AllWell, less-packed, has-member}
 use Rattle.k_joins.specs.Runs.{cutSet}
-use Rattle.k_joins.specs.Parts.{between, cutsOf, keepsOf, runOf, meetsOf, leftsOf, hasEps, stayOf, secondOf, OfStrings, Joining, InClass, ClassEnd, Follows, AllPairs, BlankCut, Gathered, ChunkEnd, PartStep, SizesTold}
+use Rattle.k_joins.specs.Parts.{between, cutsOf, keepsOf, runOf, meetsOf, leftsOf, hasEps, stayOf, secondOf, OfStrings, Joining, InClass, ClassEnd, AllPairs, BlankCut, Gathered, PartStep, SizesTold}
 use Rattle.k_joins.specs.declared.runs.Next.{Next}
 use Rattle.k_joins.proofs.Classes.{not-both, Some, cutSet-sorted, cutSet-plain}
 use Rattle.k_joins.proofs.Meeting.{Class, class-lefts, left-none, cutSet-packed, cutSet-well, cutSet-size, run-rises, run-meets, parts-join}
 use Rattle.k_joins.proofs.Running.{between-more, between-none, its-left, part-more, part-full, Steps, steps-start, steps-more, steps-full}
 
 -- ---- lists
-
-map-drop : {A B : Type 0} (f : A → B) (i : ℕ) (l : List A) → drop i (map f l) ≡ map f (drop i l)
-map-drop f zero l = refl
-map-drop f (suc i) [] = refl
-map-drop f (suc i) (x ∷ l) = map-drop f i l
 
 map-take : {A B : Type 0} (f : A → B) (i : ℕ) (l : List A) → take i (map f l) ≡ map f (take i l)
 map-take f zero l = refl
@@ -400,23 +393,6 @@ module _ {k old : ℕ} {xs ys entry exit : List ℕ} {r : Grown} {full : Bool} (
     last-full = steps-full (leftsOf k (decode xs) (decode ys)) [] s g told
 
 -- ---- what the contract of a join gives
-
-≮-length : (s t : List ℕ) → (cmpSlots s t ≡ Ordering·gt → ⊥) → length s ≤ length t
-unfolding cmpSlots
-≮-length [] t h = zero-le
-≮-length (a ∷ s) [] h = absurd (h refl)
-≮-length (a ∷ s) (b ∷ t) h = suc-le-suc (≮-length s t (λ e. h (rw e)))
-
-before-length : (x y : Str) → x ≺ y → lengthOf x ≤ lengthOf y
-unfolding cmp
-before-length eps eps e = absurd (lt≢eq (sym e))
-before-length eps (slots []) e = absurd (lt≢gt (sym e))
-before-length eps (slots (b ∷ [])) e = absurd (lt≢gt (sym e))
-before-length eps (slots (b ∷ c ∷ t)) e = omega arith
-before-length (slots []) eps e = omega arith
-before-length (slots (a ∷ [])) eps e = omega arith
-before-length (slots (a ∷ c ∷ s)) eps e = absurd (lt≢gt (sym e))
-before-length (slots s) (slots t) e = ≮-length s t (λ g. lt≢gt (sym e ∙ g))
 
 -- the strings of a set in order do not get shorter
 lengths-rise : (b : List Str) → Sorted b → (i j : ℕ) → i ≤ j → j < length b → lengthOf (getD b i eps) ≤ lengthOf (getD b j eps)

@@ -17,12 +17,12 @@ use Rattle.k_tuple.proofs.Round.{stored-lt}
 use Rattle.k_tuples.specs.declared.set.Grown.{Grown}
 use Rattle.k_tuples.specs.declared.set.Grown.the-variants.{Same, Full}
 use Rattle.k_tuples.specs.Members.{before, rising, adding, addAll}
-use Rattle.k_tuples.specs.Words.{memberAt, encode, decode, roomOf, IsSet, Grew, grownFrom, isFull}
+use Rattle.k_tuples.specs.Words.{countWord, numberIn, countIn, memberAt, encode, decode, roomOf, IsSet, Grew, grownFrom, isFull}
 use Rattle.k_tuples.specs.Cores.{withGap}
 use Rattle.k_tuples.proofs.Rising.{both, rising-addAll, length-addAll, addAll-append}
-use Rattle.k_tuples.proofs.Words.{length-decode, rest-member, set-some, set-fits, decode-encode, length-encode, encode-is-set, encode-none, zeros-set}
-use Rattle.k_tuples.proofs.Inserting.{grown-full, grew-idle, gap-encode}
-use Rattle.k_tuples.proofs.Filling.{Way, Filling, grown-fits, grew-over, grew-fits, grew-length, grew-decode, grew-set}
+use Rattle.k_tuples.proofs.Words.{words-room, length-decode, rest-member, set-some, set-within, decode-encode, number-encode, length-encode, encode-is-set, encode-none, zeros-set}
+use Rattle.k_tuples.proofs.Inserting.{grown-full, grew-idle, gap-encode, gap-number}
+use Rattle.k_tuples.proofs.Filling.{Way, Filling, grown-fits, grew-over, grew-fits, grew-length, grew-decode, grew-number, grew-set}
 use Rattle.k_joins.specs.Parts.{between, cutOf, CutAdded, KeptStep, cutsOf, keepOf, keepsOf, followsOf, runOf, meetOf, meetsOf, leftOf, leftsOf, InClass, ClassTold, ClassEnd, Follows, AllFollow, AllPairs, Coded, BlankCut, BlankRun, RunPart, Gathered, ChunkEnd}
 use Rattle.k_joins.specs.declared.runs.Next.{Next}
 use Rattle.k_joins.proofs.Adding.{addAll-most}
@@ -121,6 +121,7 @@ module _ {W : Way} {src entry ws exit : List ℕ} {goal : List Terminals} {n old
       record {
         is-set = grew-set g e′ some (rising-addAll given (decode ws) (f .is-set .rises));
         as-long = grew-length g e′ some ∙ f .as-long;
+        number = grew-number g e′ ∙ f .number;
         counted = f .counted;
         had = f .had;
         to-come = ap (addAll rest) (grew-decode g e′) ∙ rest-to-come;
@@ -130,25 +131,28 @@ module _ {W : Way} {src entry ws exit : List ℕ} {goal : List Terminals} {n old
   unfolding rest
   part-full t =
       let over : roomOf (length entry) < length goal =
-      omega (arith, grew-over g (sym told ∙ t), f .as-long, length-addAll rest (addAll given (decode ws)), ap length rest-to-come) in
+      rw (← f .as-long) (omega (arith, grew-over g (sym told ∙ t), length-addAll rest (addAll given (decode ws)), ap length rest-to-come)) in
       record { answer = sym (grown-full _ _ _ over); words = λ h. absurd (omega arith) }
 
 -- ---- one member behind the others
 
-pub pushed : {n : ℕ} {ws gap exit : List ℕ} (x : Terminals) → Coded ws → n ≡ length (decode ws) → gap ≡ withGap (2 * n + 1) (2 * n + 1) x ws → exit ≡ set gap 0 (n + 1)
-    → exit ≡ encode (length ws) (decode ws ++ x ∷ [])
-pushed {n} {ws} {gap} {exit} x c e g h =
+pub pushed : {n : ℕ} {ws gap exit : List ℕ} (x : Terminals) → Coded ws → n ≡ length (decode ws) → gap ≡ withGap (2 * n + 1) (2 * n + 1) x ws → 2 * n + 3 ≤ length ws → n < 4294967295 → exit ≡ set gap 0 (countWord (numberIn gap) (n + 1))
+    → exit ≡ encode 0 (length ws) (decode ws ++ x ∷ [])
+pushed {n} {ws} {gap} {exit} x c e g some few h =
     let ms = decode ws in
     let none : ms ≡ ms ++ [] = sym (append-nil ms) in
     let size : n ≡ length (ms ++ []) = e ∙ ap length none in
-    h ∙ ap₂ (λ (l : List ℕ) (m : ℕ). set l 0 (m + 1)) (g ∙ ap (withGap (2 * n + 1) (2 * n + 1) x) (c .is ∙ ap (encode (length ws)) none)) size
-    ∙ gap-encode (length ws) ms [] x (2 * n + 1) (2 * n + 1) (omega arith) (omega arith)
+    let zero : numberIn gap ≡ 0 = ap numberIn g ∙ gap-number n (2 * n + 1) x ws (omega arith) ∙ ap numberIn (c .is) ∙ number-encode 0 (length ws) ms (omega arith) in
+    h ∙ ap (λ (u : ℕ). set gap 0 (countWord u (n + 1))) zero
+    ∙ ap₂ (λ (l : List ℕ) (m : ℕ). set l 0 (countWord 0 (m + 1))) (g ∙ ap (withGap (2 * n + 1) (2 * n + 1) x) (c .is ∙ ap (encode 0 (length ws)) none)) size
+    ∙ gap-encode 0 (length ws) ms [] x (2 * n + 1) (2 * n + 1) (omega arith) (omega arith)
 
 -- ---- a row
 
 -- on its way: the members i to t of xs, each followed by y, stand behind the n members that there were; m is the next place
 pub record Rowing (k : ℕ) (y : Terminals) (xs entry : List ℕ) (n i e t m : ℕ) (ws : List ℕ) : Type 0 where
-  pub is : ws ≡ encode (length entry) (decode entry ++ followsOf k y (between i t xs))
+  pub is : ws ≡ encode 0 (length entry) (decode entry ++ followsOf k y (between i t xs))
+  pub members : decode ws ≡ decode entry ++ followsOf k y (between i t xs)
   pub coded : Coded ws
   pub place : m ≡ length (decode ws)
   pub counted : m + (e - t) ≡ n + (e - i)
@@ -157,44 +161,48 @@ pub record Rowing (k : ℕ) (y : Terminals) (xs entry : List ℕ) (n i e t m : �
   pub as-long : length ws ≡ length entry
 
 pub row-start : {n i e : ℕ} (k : ℕ) (y : Terminals) (xs entry : List ℕ) → Coded entry → n ≡ length (decode entry) → i ≤ e → Rowing k y xs entry n i e i n entry
-row-start {n} {i} {e} k y xs entry c s h = record {
-  is = c .is ∙ ap (encode (length entry)) (sym (append-nil (decode entry)) ∙ ap (λ (l : List Terminals). decode entry ++ l) (sym (ap (followsOf k y) (between-none i xs))));
-  coded = c;
-  place = s;
-  counted = refl;
-  from = omega arith;
-  to = h;
-  as-long = refl;
-}
+row-start {n} {i} {e} k y xs entry c s h =
+    let none : decode entry ≡ decode entry ++ followsOf k y (between i i xs) = sym (append-nil (decode entry)) ∙ ap (λ (l : List Terminals). decode entry ++ l) (sym (ap (followsOf k y) (between-none i xs))) in
+    record {
+      is = c .is ∙ ap (encode 0 (length entry)) none;
+      members = none;
+      coded = c;
+      place = s;
+      counted = refl;
+      from = omega arith;
+      to = h;
+      as-long = refl;
+    }
 
 map-last : {A B : Type 0} (f : A → B) (p : List A) (x : A) → map f (p ++ x ∷ []) ≡ map f p ++ f x ∷ []
 map-last f [] x = refl
 map-last {B = B} f (y ∷ p) x = ap (λ (l : List B). f y ∷ l) (map-last f p x)
 
-encode-coded : (n : ℕ) (ms : List Terminals) (ws : List ℕ) → ws ≡ encode n ms → 2 * length ms + 1 ≤ n → (Coded ws) × (length ws ≡ n) × (decode ws ≡ ms)
-encode-coded n ms ws e h =
-    let size : length ws ≡ n = ap length e ∙ length-encode n ms h in
-    let all : decode ws ≡ ms = ap decode e ∙ decode-encode n ms in
-    (record { is = e ∙ ap₂ encode (sym size) (sym all) }, size, all)
+encode-coded : (n : ℕ) (ms : List Terminals) (ws : List ℕ) → ws ≡ encode 0 n ms → 2 * length ms + 1 ≤ n → length ms < 4294967296 → (Coded ws) × (length ws ≡ n) × (decode ws ≡ ms)
+encode-coded n ms ws e h few =
+    let size : length ws ≡ n = ap length e ∙ length-encode 0 n ms h in
+    let all : decode ws ≡ ms = ap decode e ∙ decode-encode 0 n ms few in
+    (record { is = e ∙ ap₂ (encode 0) (sym size) (sym all) }, size, all)
 
 module _ {k : ℕ} {y : Terminals} {xs entry ws : List ℕ} {n i e t m : ℕ} (r : Rowing k y xs entry n i e t m ws) where
-  pub row-more : {x z : Terminals} {ws′ : List ℕ} → e ≤ length (decode xs) → 2 * (n + (e - i)) + 1 ≤ length entry → t < e
-      → x ≡ memberAt xs (2 * t + 1) → z ≡ joined k (reads x) (reads y) → ws′ ≡ encode (length ws) (decode ws ++ z ∷ []) → Rowing k y xs entry n i e (t + 1) (m + 1) ws′
-  row-more {x} {z} {ws′} w l h at ez ew =
+  pub row-more : {x z : Terminals} {ws′ : List ℕ} → e ≤ length (decode xs) → 2 * (n + (e - i)) + 1 ≤ length entry → n + (e - i) < 4294967296 → t < e
+      → x ≡ memberAt xs (2 * t + 1) → z ≡ joined k (reads x) (reads y) → ws′ ≡ encode 0 (length ws) (decode ws ++ z ∷ []) → Rowing k y xs entry n i e (t + 1) (m + 1) ws′
+  row-more {x} {z} {ws′} w l few h at ez ew =
       let place = r .place in
       let counted = r .counted in
       let from = r .from in
       let new = decode ws ++ z ∷ [] in
       let size : length new ≡ length (decode ws) + 1 = length-append (decode ws) (z ∷ []) in
-      let c = encode-coded (length ws) new ws′ ew (omega (arith, r .as-long)) in
+      let c = encode-coded (length ws) new ws′ ew (omega (arith, r .as-long)) (omega arith) in
       let f : Terminals → Terminals = λ u. joined k (reads u) (reads y) in
-      let before′ : decode ws ≡ decode entry ++ followsOf k y (between i t xs) = ap decode (r .is) ∙ decode-encode (length entry) _ in
+      let before′ : decode ws ≡ decode entry ++ followsOf k y (between i t xs) = r .members in
       let last : followsOf k y (between i (t + 1) xs) ≡ followsOf k y (between i t xs) ++ z ∷ [] =
       ap (followsOf k y) (between-more i xs from (omega arith)) ∙ map-last f (between i t xs) (memberAt xs (2 * t + 1)) ∙ ap (λ (u : Terminals). followsOf k y (between i t xs) ++ u ∷ []) (sym (ez ∙ ap f at)) in
       let all : new ≡ decode entry ++ followsOf k y (between i (t + 1) xs) =
       ap (λ (l : List Terminals). l ++ z ∷ []) before′ ∙ append-assoc (decode entry) (followsOf k y (between i t xs)) (z ∷ []) ∙ ap (λ (l : List Terminals). decode entry ++ l) (sym last) in
       record {
-        is = ew ∙ ap₂ encode (r .as-long) all;
+        is = ew ∙ ap₂ (encode 0) (r .as-long) all;
+        members = c .2 ∙ all;
         coded = c .0;
         place = omega (arith, ap length (c .2));
         counted = omega arith;
@@ -203,8 +211,8 @@ module _ {k : ℕ} {y : Terminals} {xs entry ws : List ℕ} {n i e t m : ℕ} (r
         as-long = c .1 ∙ r .as-long;
       }
 
-  pub row-end : e ≤ t → ws ≡ encode (length entry) (decode entry ++ followsOf k y (between i e xs))
-  row-end h = let s : t ≡ e = omega (arith, r .to) in r .is ∙ ap (λ (u : ℕ). encode (length entry) (decode entry ++ followsOf k y (between i u xs))) s
+  pub row-end : e ≤ t → ws ≡ encode 0 (length entry) (decode entry ++ followsOf k y (between i e xs))
+  row-end h = let s : t ≡ e = omega (arith, r .to) in r .is ∙ ap (λ (u : ℕ). encode 0 (length entry) (decode entry ++ followsOf k y (between i u xs))) s
 
 pub follows-here : {k l i e t : ℕ} {x y : Terminals} (xs : List ℕ) → AllFollow k l xs i e y → i ≤ t → t < e → x ≡ memberAt xs (2 * t + 1) → Follows k l x y
 follows-here {k} {l} {t = t} {y = y} xs f h b at = subst (λ (u : Terminals). Follows k l u y) (sym at) (f t h b)
@@ -247,7 +255,7 @@ module _ {k l w m h : ℕ} {x y : Terminals} (f : Follows k l x y) (ew : w ≡ w
 
 -- on its way: the rows of the members j to f of ds are written, which are n members
 pub record Running (k : ℕ) (xs ds entry : List ℕ) (i e j n f : ℕ) (ws : List ℕ) : Type 0 where
-  pub is : ws ≡ encode 255 (runOf k (between i e xs) (between j f ds))
+  pub is : ws ≡ encode 0 255 (runOf k (between i e xs) (between j f ds))
   pub counted : n ≡ length (runOf k (between i e xs) (between j f ds))
   pub few : n ≤ 127
   pub from : j ≤ f
@@ -258,7 +266,7 @@ pub record Running (k : ℕ) (xs ds entry : List ℕ) (i e j n f : ℕ) (ws : Li
 pub run-start : {ws : List ℕ} (k : ℕ) (xs ds : List ℕ) (i e j : ℕ) → BlankRun ws → j < length (decode ds) → Running k xs ds ws i e j 0 j ws
 unfolding runOf
 run-start k xs ds i e j b h = record {
-  is = b ∙ encode-none 255 (omega arith) ∙ ap (λ (l : List Terminals). encode 255 (runOf k (between i e xs) l)) (sym (between-none j ds));
+  is = b ∙ encode-none 255 (omega arith) ∙ ap (λ (l : List Terminals). encode 0 255 (runOf k (between i e xs) l)) (sym (between-none j ds));
   counted = sym (ap (λ (l : List Terminals). length (runOf k (between i e xs) l)) (between-none j ds));
   few = omega arith;
   from = omega arith;
@@ -269,7 +277,7 @@ run-start k xs ds i e j b h = record {
 
 module _ {k : ℕ} {xs ds entry ws : List ℕ} {i e j n f : ℕ} (r : Running k xs ds entry i e j n f ws) where
   run-coded : (Coded ws) × (length ws ≡ 255) × (decode ws ≡ runOf k (between i e xs) (between j f ds))
-  run-coded = encode-coded 255 _ ws (r .is) (omega (arith, r .counted, r .few))
+  run-coded = encode-coded 255 _ ws (r .is) (omega (arith, r .counted, r .few)) (omega (arith, r .counted, r .few))
 
   pub run-words : Coded ws
   run-words = run-coded .0
@@ -283,21 +291,24 @@ module _ {k : ℕ} {xs ds entry ws : List ℕ} {i e j n f : ℕ} (r : Running k 
   pub run-room : e - i ≤ 127 - n → 2 * (n + (e - i)) + 1 ≤ length ws
   run-room h = omega (arith, run-long, r .few)
 
+  pub run-counted : e - i ≤ 127 - n → n + (e - i) < 4294967296
+  run-counted h = omega (arith, r .few)
+
   pub run-more : {y : Terminals} {ws′ : List ℕ} → e ≤ length (decode xs) → i ≤ e → f < length (decode ds) → e - i ≤ 127 - n → 0 < e - i → y ≡ memberAt ds (2 * f + 1)
-      → ws′ ≡ encode (length ws) (decode ws ++ followsOf k y (between i e xs)) → Running k xs ds entry i e j (n + (e - i)) (f + 1) ws′
+      → ws′ ≡ encode 0 (length ws) (decode ws ++ followsOf k y (between i e xs)) → Running k xs ds entry i e j (n + (e - i)) (f + 1) ws′
   run-more {y} {ws′} w o h room some at ew =
       let A = between i e xs in
       let last : runOf k A (between j (f + 1) ds) ≡ runOf k A (between j f ds) ++ followsOf k y A =
       ap (runOf k A) (between-more j ds (r .from) h) ∙ way-last (its-run k A) (between j f ds) (memberAt ds (2 * f + 1)) ∙ ap (λ (u : Terminals). runOf k A (between j f ds) ++ followsOf k u A) (sym at) in
       let size : length (followsOf k y A) ≡ e - i = length-map A (λ x. joined k (reads x) (reads y)) ∙ length-between i e xs w in
       record {
-        is = ew ∙ ap₂ encode run-long (ap (λ (l : List Terminals). l ++ followsOf k y A) (run-coded .2) ∙ sym last);
+        is = ew ∙ ap₂ (encode 0) run-long (ap (λ (l : List Terminals). l ++ followsOf k y A) (run-coded .2) ∙ sym last);
         counted = sym (ap length last ∙ length-append (runOf k A (between j f ds)) (followsOf k y A) ∙ ap₂ _+_ (sym (r .counted)) size);
         few = omega (arith, r .few);
         from = omega (arith, r .from);
         to = omega arith;
         first = λ z. absurd (omega (arith, r .from));
-        as-long = ap length ew ∙ length-encode (length ws) _ (omega (arith, run-long, length-append (decode ws) (followsOf k y A), run-place, r .few)) ∙ r .as-long;
+        as-long = ap length ew ∙ length-encode 0 (length ws) _ (omega (arith, run-long, length-append (decode ws) (followsOf k y A), run-place, r .few)) ∙ r .as-long;
       }
 
   pub run-part : j < f → RunPart k xs i e ds j f ws
@@ -346,13 +357,13 @@ module _ {k : ℕ} {xs ds ws : List ℕ} {i e j f : ℕ} (p : RunPart k xs i e d
       rising-front _ _ (rising-back (runOf k A (take j (decode ds))) _ (subst (λ (l : List Terminals). rising l ≡ true) whole r))
 
   pub part-set : rising (runOf k (between i e xs) (decode ds)) ≡ true → IsSet ws
-  part-set r = subst IsSet (sym (p .is)) (encode-is-set 255 _ (p .fits) (part-rises r))
+  part-set r = subst IsSet (sym (p .is)) (encode-is-set 0 255 _ (omega arith) (words-room _ 255 (p .fits) (omega (arith, p .fits))) (part-rises r))
 
   pub part-is : decode ws ≡ runOf k (between i e xs) (between j f ds)
-  part-is = ap decode (p .is) ∙ decode-encode 255 _
+  part-is = ap decode (p .is) ∙ decode-encode 0 255 _ (omega (arith, p .fits))
 
   pub part-blank : {ws′ : List ℕ} → ws′ ≡ replicate (length ws) 0 → BlankRun ws′
-  part-blank z = z ∙ ap (λ (n : ℕ). replicate n 0) (ap length (p .is) ∙ length-encode 255 _ (p .fits))
+  part-blank z = z ∙ ap (λ (n : ℕ). replicate n 0) (ap length (p .is) ∙ length-encode 0 255 _ (p .fits))
 
 -- the set that takes the run
 module _ {k n old : ℕ} {xs ds entry out exit ws : List ℕ} {i e j f : ℕ} {goal : List Terminals} {r : Grown} {full : Bool}
@@ -384,11 +395,12 @@ chunk-of {j = j} {f = f} ys c e = subst (λ (m : ℕ). ChunkEnd m j f) e c
 pub record Steps (entry : List ℕ) (goal : List Terminals) (old : ℕ) (rest : List Terminals) (ws : List ℕ) : Type 0 where
   pub is-set : IsSet ws
   pub as-long : length ws ≡ length entry
+  pub number : numberIn ws ≡ numberIn entry
   pub had : old ≡ length (decode entry)
   pub to-come : addAll rest (decode ws) ≡ goal
 
 pub steps-start : {entry : List ℕ} {goal : List Terminals} {old : ℕ} (rest : List Terminals) → IsSet entry → old ≡ length (decode entry) → addAll rest (decode entry) ≡ goal → Steps entry goal old rest entry
-steps-start rest s h e = record { is-set = s; as-long = refl; had = h; to-come = e }
+steps-start rest s h e = record { is-set = s; as-long = refl; number = refl; had = h; to-come = e }
 
 module _ {entry ws exit : List ℕ} {goal : List Terminals} {old : ℕ} {r : Grown} {full : Bool} (p q : List Terminals) (s : Steps entry goal old (p ++ q) ws) (g : Grew ws exit (addAll p (decode ws)) r)
     (told : full ≡ isFull r) where
@@ -402,23 +414,24 @@ module _ {entry ws exit : List ℕ} {goal : List Terminals} {old : ℕ} {r : Gro
       record {
         is-set = grew-set g e some (rising-addAll p (decode ws) (s .is-set .rises));
         as-long = grew-length g e some ∙ s .as-long;
+        number = grew-number g e ∙ s .number;
         had = s .had;
         to-come = ap (addAll q) (grew-decode g e) ∙ after;
       }
 
   pub steps-full : full ≡ true → Grew entry exit goal Full
   steps-full t =
-      let over : roomOf (length entry) < length goal = omega (arith, grew-over g (sym told ∙ t), s .as-long, length-addAll q (addAll p (decode ws)), ap length after) in
+      let over : roomOf (length entry) < length goal = rw (← s .as-long) (omega (arith, grew-over g (sym told ∙ t), length-addAll q (addAll p (decode ws)), ap length after)) in
       record { answer = sym (grown-full _ _ _ over); words = λ h. absurd (omega arith) }
 
 pub steps-end : {entry ws : List ℕ} {goal : List Terminals} {old : ℕ} {r : Grown} → Steps entry goal old [] ws → r ≡ grownFrom old (length (decode ws)) → Grew entry ws goal r
 unfolding addAll
 steps-end {entry} {ws} {goal} s e =
     let all : decode ws ≡ goal = s .to-come in
-    let fits : length goal ≤ roomOf (length entry) = omega (arith, set-fits (s .is-set), length-decode ws, s .as-long, ap length all) in
+    let fits : length goal ≤ roomOf (length entry) = rw (← all, ← s .as-long) (set-within (s .is-set)) in
     record {
       answer = e ∙ ap₂ grownFrom (s .had) (ap length all) ∙ sym (grown-fits _ _ _ fits);
-      words = λ _. s .is-set .coded ∙ ap₂ encode (s .as-long) all;
+      words = λ _. s .is-set .coded ∙ ap₂ (λ (u n : ℕ). encode u n (decode ws)) (s .number) (s .as-long) ∙ ap (encode (numberIn entry) (length entry)) all;
     }
 
 -- ---- what a part of a set gives, gathered
@@ -436,7 +449,7 @@ pub gather-start : {ws : List ℕ} {e n : ℕ} (W : Way) (src : List ℕ) (j : �
 unfolding addAll
 gather-start {ws} W src j b h =
     let more = h .more in
-    let none : decode ws ≡ [] = ap decode (b ∙ encode-none 255 (omega arith)) ∙ decode-encode 255 [] in
+    let none : decode ws ≡ [] = ap decode (b ∙ encode-none 255 (omega arith)) ∙ decode-encode 0 255 [] (omega arith) in
     record {
       is-set = zeros-set 255 (omega arith) b;
       as-long = ap length b ∙ length-replicate {A = ℕ} 255 0;
@@ -459,13 +472,13 @@ module _ {W : Way} {src ws : List ℕ} {j e t : ℕ} (g : Gathering W src j e t 
       let few = g .few in
       let from = g .from in
       let small : length new ≤ t + 1 - j = omega arith in
-      let fits : length new ≤ roomOf (length ws) = omega (arith, g .as-long) in
+      let fits : length new ≤ roomOf (length ws) = words-room (length new) (length ws) (omega (arith, g .as-long)) (omega arith) in
       let words = grew .words fits in
       let room : 2 * length new + 1 ≤ length ws = omega (arith, g .as-long) in
-      let all : decode exit ≡ new = ap decode words ∙ decode-encode (length ws) new in
+      let all : decode exit ≡ new = ap decode words ∙ decode-encode (numberIn ws) (length ws) new (omega arith) in
       record {
-        is-set = subst IsSet (sym words) (encode-is-set (length ws) new room (rising-addAll (W .one x) (decode ws) (g .is-set .rises)));
-        as-long = ap length words ∙ length-encode (length ws) new room ∙ g .as-long;
+        is-set = subst IsSet (sym words) (encode-is-set (numberIn ws) (length ws) new (omega arith) fits (rising-addAll (W .one x) (decode ws) (g .is-set .rises)));
+        as-long = ap length words ∙ length-encode (numberIn ws) (length ws) new room ∙ g .as-long;
         members = all ∙ ap (addAll (W .one x)) (g .members) ∙ sym (addAll-append (W .all (between j t src)) (W .one x) [])
             ∙ ap (λ (l : List Terminals). addAll l []) (sym (ap (W .all) (between-more j src from h) ∙ way-last W (between j t src) x));
         few = rw all small;

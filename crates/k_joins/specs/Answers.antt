@@ -19,4 +19,4 @@ joinAnswer k n a b = outcome (
     (newSet n (joinSet k a b) []))
 
 unfoldable pub joinWords : (k : ℕ) (a b out : List ℕ) → List ℕ
-joinWords k a b out = written (joinAnswer k (length out) a b) (commonWidth (setIn k a) (setIn k b)) (joinSet k a b) out
+joinWords k a b out = written (joinAnswer k (length out) a b) k (commonWidth (setIn k a) (setIn k b)) (joinSet k a b) out

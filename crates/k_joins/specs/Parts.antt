@@ -9,7 +9,7 @@ use Rattle.k_tuple.specs.Strings.{Str, eps, lengthOf, wellFormed, countField}
 use Rattle.k_tuple.specs.Packed.{Alike, packed, number-of, reads, joined, cutIn, epsIn, completeIn}
 use Rattle.k_tuples.specs.Sets.{_∈_, Sorted}
 use Rattle.k_tuples.specs.Members.{addAll, hasOf}
-use Rattle.k_tuples.specs.Words.{memberAt, encode, decode, IsSet, Grew, isFull}
+use Rattle.k_tuples.specs.Words.{countIn, memberAt, encode, decode, IsSet, Grew, isFull}
 use Rattle.k_tuples.specs.Held.{firstWidth}
 use Rattle.k_tuples.specs.declared.set.Grown.{Grown}
 use Rattle.k_joins.specs.declared.runs.Next.{Next}
@@ -123,11 +123,11 @@ AllFollow k l xs i e y = (t : ℕ) → i ≤ t → t < e → Follows k l (member
 
 -- every member in ys can
 abbrev pub AllPairs : ℕ → ℕ → List ℕ → ℕ → ℕ → List ℕ → Type 0
-AllPairs k l xs i e ys = (j : ℕ) → j < getD ys 0 0 → AllFollow k l xs i e (memberAt ys (2 * j + 1))
+AllPairs k l xs i e ys = (j : ℕ) → j < countIn ys → AllFollow k l xs i e (memberAt ys (2 * j + 1))
 
--- words that are those of their members
+-- words that are those of their members, with the number 0
 pub record Coded (ws : List ℕ) : Type 0 where
-  pub is : ws ≡ encode (length ws) (decode ws)
+  pub is : ws ≡ encode 0 (length ws) (decode ws)
 
 -- a local array that holds no members: for what is cut, and for a run
 abbrev pub BlankCut : List ℕ → Type 0
@@ -141,7 +141,7 @@ pub record RunPart (k : ℕ) (xs : List ℕ) (i e : ℕ) (ds : List ℕ) (j f : 
   pub more : j < f
   pub within : f ≤ length (decode ds)
   pub fits : 2 * length (runOf k (between i e xs) (between j f ds)) + 1 ≤ 255
-  pub is : ws ≡ encode 255 (runOf k (between i e xs) (between j f ds))
+  pub is : ws ≡ encode 0 255 (runOf k (between i e xs) (between j f ds))
 
 -- y was added, cut to r slots, unless it is ε
 pub record CutAdded (r : ℕ) (y : Terminals) (ws ws′ : List ℕ) : Type 0 where

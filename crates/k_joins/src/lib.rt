@@ -6,6 +6,7 @@ ghost use Rattle.k_joins.specs.Answers.{joinAnswer, joinWords};
 use crate::join::join_sets;
 use k_tuples::SetAnswer;
 use k_tuples::refusal;
+use k_tuples::set::finish;
 use k_tuples::told_set;
 
 pub mod join;
@@ -21,5 +22,6 @@ pub fn k_concat(k: u64, a: &[u64], b: &[u64], out: &mut [u64]) -> SetAnswer
     if no != 0 {
         return SetAnswer::Refused(no);
     }
-    told_set(join_sets(out, a, b, k))
+    let g = join_sets(out, a, b, k);
+    told_set(finish(k, out, g))
 }

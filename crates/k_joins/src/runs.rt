@@ -58,8 +58,8 @@ fn followed(x: Terminals, y: Terminals, w: u64, l: u64, m: u64, above: Words, k:
 
 // Writes x behind the n members in r.
 fn push(r: &mut [u64], n: usize, x: Terminals)
-    requires { ⌜ Coded (now r) × ((n ≡ length (decode (now r))) × (2 * n + 3 ≤ length (now r))) ⌝ }
-    ensures { λ _. ⌜ now (r .exit) ≡ encode (length (now (r .entry))) (decode (now (r .entry)) ++ x ∷ []) ⌝ }
+    requires { ⌜ Coded (now r) × ((n ≡ length (decode (now r))) × ((2 * n + 3 ≤ length (now r)) × (n < 4294967295))) ⌝ }
+    ensures { λ _. ⌜ now (r .exit) ≡ encode 0 (length (now (r .entry))) (decode (now (r .entry)) ++ x ∷ []) ⌝ }
 {
     put_in(r, 2 * n + 1, 2 * n + 1, x);
     set_count(r, n + 1);
@@ -67,8 +67,8 @@ fn push(r: &mut [u64], n: usize, x: Terminals)
 
 // Writes the members i to e of xs, which have l slots, behind the n members in r, each followed by y.
 fn put_row(r: &mut [u64], n: usize, xs: &[u64], i: usize, e: usize, l: u64, y: Terminals, k: u64)
-    requires { ⌜ (IsSet (now xs) × AllFollow k l (now xs) i e y) × ((i ≤ e) × ((e ≤ length (decode (now xs))) × (Coded (now r) × ((n ≡ length (decode (now r))) × (2 * (n + (e - i)) + 1 ≤ length (now r)))))) ⌝ }
-    ensures { λ _. ⌜ now (r .exit) ≡ encode (length (now (r .entry))) (decode (now (r .entry)) ++ followsOf k y (between i e (now (xs .entry)))) ⌝ }
+    requires { ⌜ (IsSet (now xs) × AllFollow k l (now xs) i e y) × ((i ≤ e) × ((e ≤ length (decode (now xs))) × (Coded (now r) × ((n ≡ length (decode (now r))) × ((2 * (n + (e - i)) + 1 ≤ length (now r)) × (n + (e - i) < 4294967296)))))) ⌝ }
+    ensures { λ _. ⌜ now (r .exit) ≡ encode 0 (length (now (r .entry))) (decode (now (r .entry)) ++ followsOf k y (between i e (now (xs .entry)))) ⌝ }
 {
     let w = width(y);
     let more = slot_count(y);

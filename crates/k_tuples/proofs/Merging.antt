@@ -5,6 +5,7 @@ use mathlib.Core.Path.{_≡_, refl, sym, ap, ap₂, _∙_, subst}
 use mathlib.Core.Bool.{Bool, true, false}
 use mathlib.Core.List.{List, [], _∷_, _++_, append-nil, append-assoc}
 use Prim.Native.Nat.{ℕ, zero, suc, _+_, _-_, _*_, _≤_, _<_}
+use native.Mathlib.Nat.{not-suc-le-zero}
 use native.Mathlib.Numerals.{add-one}
 use native.Mathlib.Omega.{arith}
 use borrow.Author.Tests.{lt-ltb, le-ltb}
@@ -17,10 +18,10 @@ use Rattle.k_tuples.specs.declared.set.Grown.the-variants.{Added, Same a
 use Rattle.k_tuples.specs.declared.merge.Side.{Side}
 use Rattle.k_tuples.specs.declared.merge.Side.the-variants.{Below, Same, Above}
 use Rattle.k_tuples.specs.Members.{rising, rank, adding, addAll, hasOf, keptOf, bothOf, noneOf}
-use Rattle.k_tuples.specs.Words.{flat, encode, memberAt, decode, roomOf, IsSet, Grew, grownFrom, isFull}
+use Rattle.k_tuples.specs.Words.{flat, countWord, numberIn, encode, memberAt, decode, roomOf, IsSet, Grew, grownFrom, isFull}
 use Rattle.k_tuples.specs.Merging.{sideOf, written, Begins, Merged, Passed}
 use Rattle.k_tuples.proofs.Rising.{rank-le, length-addAll}
-use Rattle.k_tuples.proofs.Words.{length-flat, flat-append, length-decode, getD-decode, set-room, set-some, set-past, next-member, none-left}
+use Rattle.k_tuples.proofs.Words.{room-words, length-flat, flat-append, length-decode, getD-decode, set-room, set-some, set-past, next-member, none-left}
 use Rattle.k_tuples.proofs.Inserting.{grown-full, grown-added, grew-idle}
 use Rattle.k_tuples.proofs.Filling.{Filling, kept-in, gives-kept, fill-start, fill-more, fill-full, fill-end}
 use Rattle.k_tuples.proofs.Uniting.{Level, level-swap, level-rises, is-below, is-above, is-same, drop-rises, take-rises, add-none, first-below, first-above, first-same, add-behind, add-after, add-idle, length-most, _then_, last-below, last-above, last-same, none-below, none-above, none-same, none-in-none, none-passed, has-same, both-below, both-above, both-past, both-with-none, both-passed}
@@ -101,13 +102,13 @@ take-flat (suc n) (m ∷ ms) =
     let e : 2 * suc n ≡ suc (suc (2 * n)) = omega arith in
     rw e (ap (λ (l : List ℕ). m .lo ∷ m .hi ∷ l) (take-flat n ms))
 
-front-words : {src : List ℕ} (n : ℕ) → IsSet src → n ≤ length (decode src) → take (2 * n + 1) src ≡ length (decode src) ∷ flat (take n (decode src))
+front-words : {src : List ℕ} (n : ℕ) → IsSet src → n ≤ length (decode src) → take (2 * n + 1) src ≡ countWord (numberIn src) (length (decode src)) ∷ flat (take n (decode src))
 unfolding encode
 front-words {src} n s h =
     let ms = decode src in
     let one : 2 * n + 1 ≡ suc (2 * n) = omega arith in
     ap₂ take one (s .coded)
-    ∙ ap (λ (l : List ℕ). length ms ∷ l) (take-append-le (2 * n) (flat ms) (replicate (length src - (2 * length ms + 1)) 0) (omega (arith, length-flat ms)) ∙ take-flat n ms)
+    ∙ ap (λ (l : List ℕ). countWord (numberIn src) (length ms) ∷ l) (take-append-le (2 * n) (flat ms) (replicate (length src - (2 * length ms + 1)) 0) (omega (arith, length-flat ms)) ∙ take-flat n ms)
 
 first-words : {src : List ℕ} (n : ℕ) → IsSet src → n ≤ length (decode src) → take (2 * n) (drop 1 src) ≡ flat (take n (decode src))
 unfolding encode
@@ -301,6 +302,7 @@ back-start {a} {b} {p} {n} {i} {j} sa sb g c h e f =
     let B = decode b in
     let all : addAll (take j B) (take i A) ≡ addAll B A = ap₂ addAll (ap (λ (k : ℕ). take k B) f ∙ take-length B) (ap (λ (k : ℕ). take k A) e ∙ take-length A) in
     let size′ : n ≡ length (addAll (take j B) (take i A)) = c ∙ ap length (sym all) in
+    let room-words′ : 2 * (n + 0) + 1 ≤ length a = omega (arith, room-words n (length a) h (set-some sa)) in
     record {
       rises-a = sa .rises;
       rises-b = sb .rises;
@@ -311,7 +313,7 @@ back-start {a} {b} {p} {n} {i} {j} sa sb g c h e f =
       room-a = set-room sa;
       room-b = set-room sb;
       done = [];
-      room = omega (arith, set-some sa);
+      room = room-words′;
       size = size′;
       least = omega (arith, size′, union-least i j A B (omega arith));
       most = omega (arith, size′, union-most i j A B (omega arith) (omega arith));
@@ -453,15 +455,21 @@ module _ {a b ws : List ℕ} {p i j m : ℕ} (k : Backing a b p i j m ws) where
 pub begin-at : {x : Terminals} {p : ℕ} (a b : List ℕ) → 0 < length (decode b) → x ≡ memberAt b (2 * 0 + 1) → p ≡ rank x (decode a) → Begins a b p
 begin-at a b h e f = record { some = h; place = f ∙ ap (λ (t : Terminals). rank t (decode a)) e }
 
-pub unite-full : {n : ℕ} {new : List Terminals} (ws : List ℕ) → n ≡ length new → roomOf (length ws) < n → Grew ws ws new Full
-unite-full ws e h = record { answer = sym (grown-full _ _ _ (omega arith)); words = λ l. absurd (omega arith) }
+pub unite-full : {n m : ℕ} {new : List Terminals} (ws : List ℕ) → n ≡ length new → m ≡ roomOf (length ws) → m < n → Grew ws ws new Full
+unite-full ws e f h = record { answer = sym (grown-full _ _ _ (omega arith)); words = λ l. absurd (omega arith) }
 
 pub unite-same : {n c : ℕ} (a b : List ℕ) → IsSet a → n ≡ length (addAll (decode b) (decode a)) → c ≡ length (decode a) → n ≤ c → Grew a a (addAll (decode b) (decode a)) Unchanged
 unite-same a b s e f h =
     subst (λ (l : List Terminals). Grew a a l Unchanged) (sym (add-idle (decode b) (decode a) (omega arith))) (grew-idle s)
 
+-- what is written stands behind the count word
+written-number : (n : ℕ) (ms : List Terminals) (ws : List ℕ) → 1 ≤ length ws → numberIn (written n ms ws) ≡ numberIn ws
+unfolding written numberIn
+written-number n ms [] h = absurd (not-suc-le-zero h)
+written-number n ms (c ∷ ws) h = let one : 2 * n + 1 ≡ suc (2 * n) = omega arith in rw one
+
 -- the words of a merge, once the count is written
-merged-words : {a ws : List ℕ} {all : List Terminals} (n : ℕ) → IsSet a → Merged a all ws → n ≡ length all → length (decode a) ≤ n → set ws 0 n ≡ encode (length a) all
+merged-words : {a ws : List ℕ} {all : List Terminals} (n : ℕ) → IsSet a → Merged a all ws → n ≡ length all → length (decode a) ≤ n → set ws 0 (countWord (numberIn ws) n) ≡ encode (numberIn a) (length a) all
 unfolding encode written
 merged-words {a} {ws} {all} n s g e h =
     let A = decode a in
@@ -472,13 +480,15 @@ merged-words {a} {ws} {all} n s g e h =
     let zeros : List ℕ = replicate (length a - (2 * n + 1)) 0 in
     let past : drop (2 * (kept + length rest) + 1) a ≡ zeros =
     ap (λ (q : ℕ). drop (2 * q + 1) a) size ∙ set-past (2 * n + 1) s (omega (arith, length-decode a)) in
-    ap (λ (l : List ℕ). set l 0 n) (g .is ∙ ap₂ (λ (l r : List ℕ). l ++ (flat rest ++ r)) (front-words kept s (g .within)) past)
-    ∙ ap (λ (l : List ℕ). n ∷ l) (sym (append-assoc (flat (take kept A)) (flat rest) zeros) ∙ ap (λ (l : List ℕ). l ++ zeros) (sym (flat-append (take kept A) rest) ∙ ap flat (g .whole)))
-    ∙ ap (λ (q : ℕ). q ∷ (flat all ++ replicate (length a - (2 * q + 1)) 0)) e
+    let number : numberIn ws ≡ numberIn a = ap numberIn (g .is) ∙ written-number kept rest a (set-some s) in
+    ap (λ (v : ℕ). set ws 0 (countWord v n)) number
+    ∙ ap (λ (l : List ℕ). set l 0 (countWord (numberIn a) n)) (g .is ∙ ap₂ (λ (l r : List ℕ). l ++ (flat rest ++ r)) (front-words kept s (g .within)) past)
+    ∙ ap (λ (l : List ℕ). countWord (numberIn a) n ∷ l) (sym (append-assoc (flat (take kept A)) (flat rest) zeros) ∙ ap (λ (l : List ℕ). l ++ zeros) (sym (flat-append (take kept A) rest) ∙ ap flat (g .whole)))
+    ∙ ap (λ (q : ℕ). countWord (numberIn a) q ∷ (flat all ++ replicate (length a - (2 * q + 1)) 0)) e
 
-pub unite-added : {n c : ℕ} {a ws exit : List ℕ} (b : List ℕ) → IsSet a → n ≡ length (addAll (decode b) (decode a)) → n ≤ roomOf (length a) → c ≡ length (decode a) → c < n
-    → Merged a (addAll (decode b) (decode a)) ws → exit ≡ set ws 0 n → Grew a exit (addAll (decode b) (decode a)) Added
-unite-added {n} b s e room f h g x = record {
+pub unite-added : {n m c : ℕ} {a ws exit : List ℕ} (b : List ℕ) → IsSet a → n ≡ length (addAll (decode b) (decode a)) → m ≡ roomOf (length a) → n ≤ m → c ≡ length (decode a) → c < n
+    → Merged a (addAll (decode b) (decode a)) ws → exit ≡ set ws 0 (countWord (numberIn ws) n) → Grew a exit (addAll (decode b) (decode a)) Added
+unite-added {n} b s e most room f h g x = record {
   answer = sym (grown-added _ _ _ (omega arith) (omega arith));
   words = λ l. x ∙ merged-words n s g e (omega arith);
 }
@@ -561,6 +571,7 @@ share-start {a} {b} {entry} {n} {m} {old} {j} s t e f d p = record {
   filling = record {
     is-set = t;
     as-long = refl;
+    number = refl;
     counted = e;
     had = d;
     to-come = ap (λ (l : List Terminals). addAll l (decode entry)) (sym (both-passed (decode a) (decode b) j (s .rises) p));
@@ -578,6 +589,7 @@ share-on {ws = ws} i′ j′ k e =
       filling = record {
         is-set = f .is-set;
         as-long = f .as-long;
+        number = f .number;
         counted = f .counted;
         had = f .had;
         to-come = ap (λ (l : List Terminals). addAll l (decode ws)) (sym e) ∙ f .to-come;

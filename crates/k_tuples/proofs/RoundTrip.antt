@@ -17,8 +17,8 @@ use Rattle.k_tuples.proofs.Answers.{any-width}
 use Rattle.k_tuples.proofs.Reading.{read-back}
 
 -- written and read back: a sorted set of fitting members, in words that have room for it
-pub written-read : (k n w : ℕ) (a : List Str) → 2 * length a + 1 ≤ n → Sorted a → AllFit k w a → setIn k (setWords n w a) ≡ good (widthFor w a) a
-written-read k n w a room sorted fit = read-back (holds-words k n w a room sorted fit)
+pub written-read : (k n w : ℕ) (a : List Str) → 2 * length a + 1 ≤ n → length a < 4294967296 → Sorted a → AllFit k w a → setIn k (setWords k n w a) ≡ good (widthFor w a) a
+written-read k n w a room counted sorted fit = read-back (holds-words k n w a room counted sorted fit)
 
 at-any-width : {k : ℕ} (w : ℕ) (a : List Str) {ws : List ℕ} → Holds k (widthFor w a) a ws → Holds k w a ws
 at-any-width w [] h = any-width w h
@@ -38,7 +38,7 @@ module _ (k : ℕ) (ws : List ℕ) (low : (i : ℕ) → getD ws i 0 < 2 ^ 64) wh
       by false t e = absurd (let z : _≡_ {A = ℕ} 0 1 = cc in omega arith)
 
   -- read and written back: the words are those of the set, which is sorted, of fitting members, and has room
-  pub read-written : (w : ℕ) (a : List Str) → setIn k ws ≡ good w a → ws ≡ setWords (length ws) w a
+  pub read-written : (w : ℕ) (a : List Str) → setIn k ws ≡ good w a → ws ≡ setWords k (length ws) w a
   read-written w a e = read-holds w a e .words
 
   pub read-set : (w : ℕ) (a : List Str) → setIn k ws ≡ good w a → (2 * length a + 1 ≤ length ws) × Sorted a × AllFit k w a

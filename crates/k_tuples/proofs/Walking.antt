@@ -1,13 +1,14 @@
 -- A loop that asks something of the members of a set, one after the other, until one decides. Its invariant is `Asking`: the members that are left
--- have the answer that all have. Likewise `Matching`, for two sets member by member. Assumes nothing.
+-- have the answer that all have. Likewise `Matching`, for two sets member by member, and `Tallying`, for a count. Assumes nothing.
 use mathlib.Core.Path.{_≡_, refl, sym, ap, ap₂, _∙_}
 use mathlib.Core.Bool.{Bool, true, false, cond, not, _&&_}
-use mathlib.Core.List.{List, [], _∷_}
-use Prim.Native.Nat.{ℕ, _+_, _*_, _≤_, _<_}
+use mathlib.Core.List.{List, [], _∷_, _++_}
+use Prim.Native.Nat.{ℕ, zero, suc, _+_, _*_, _≤_, _<_}
+use native.Mathlib.Omega.{arith}
 use lib.ListN.{length, drop}
 use Rattle.k_tuple.specs.declared.Terminals.{Terminals}
 use Rattle.k_tuple.specs.Packed.{reads, completeIn}
-use Rattle.k_tuples.specs.Members.{sameMember, sameMembers, hasOf, noneOf, completeAll}
+use Rattle.k_tuples.specs.Members.{sameMember, sameMembers, hasOf, noneOf, openOf, joinsOf, pairsOf}
 use Rattle.k_tuples.specs.Words.{memberAt, decode}
 use Rattle.k_tuples.proofs.Rising.{same-length}
 use Rattle.k_tuples.proofs.Words.{next-member, none-left}
@@ -26,16 +27,9 @@ pub stops-if : (t u : Bool) → (not t && u) ≡ cond t false u
 stops-if true u = refl
 stops-if false u = refl
 
-pub stops-unless : (t u : Bool) → (t && u) ≡ cond (not t) false u
-stops-unless true u = refl
-stops-unless false u = refl
-
--- whether none is in the set ms; whether all are complete at k
+-- whether none is in the set ms
 abbrev pub none-in : List Terminals → Question
 none-in ms = record { asked = λ x. hasOf x ms; ends = λ b. b; all = λ xs. noneOf xs ms; none = refl; more = λ x xs. stops-if (hasOf x ms) (noneOf xs ms) }
-
-abbrev pub complete-at : ℕ → Question
-complete-at k = record { asked = λ x. completeIn k (reads x); ends = not; all = completeAll k; none = refl; more = λ x xs. stops-unless (completeIn k (reads x)) (completeAll k xs) }
 
 -- at member i of n
 pub record Asking (Q : Question) (src : List ℕ) (answer : Bool) (n i : ℕ) : Type 0 where
@@ -85,3 +79,67 @@ module _ {a b : List ℕ} {answer t : Bool} {n i : ℕ} {x y : Terminals} (m : M
 pub match-done : {a b : List ℕ} {answer : Bool} {n i : ℕ} → Matching a b answer n i → n ≤ i → true ≡ answer
 unfolding sameMembers
 match-done {a} {b} m h = sym (m .left ∙ ap₂ sameMembers (none-left a (m .counted) h) (none-left b (m .as-many) h))
+
+-- ---- a count
+
+-- `open_one`
+pub one-complete : {t : Bool} (k : ℕ) (x : Terminals) → t ≡ completeIn k (reads x) → t ≡ true → 0 ≡ openOf k (x ∷ [])
+unfolding openOf
+one-complete k x e t = sym (rw (← e, t))
+
+pub one-open : {t : Bool} (k : ℕ) (x : Terminals) → t ≡ completeIn k (reads x) → t ≡ false → 1 ≡ openOf k (x ∷ [])
+unfolding openOf
+one-open k x e t = sym (rw (← e, t))
+
+open-more : (k : ℕ) (x : Terminals) (xs : List Terminals) → openOf k (x ∷ xs) ≡ openOf k (x ∷ []) + openOf k xs
+unfolding openOf
+open-more k x xs = by (completeIn k (reads x))
+  where
+    by : (t : Bool) → cond t (openOf k xs) (suc (openOf k xs)) ≡ cond t zero (suc zero) + openOf k xs
+    by true = omega arith
+    by false = omega arith
+
+pub open-few : (k : ℕ) (xs : List Terminals) → openOf k xs ≤ length xs
+unfolding openOf
+open-few k [] = omega arith
+open-few k (x ∷ xs) = by (completeIn k (reads x)) (open-few k xs)
+  where
+    by : (t : Bool) → openOf k xs ≤ length xs → cond t (openOf k xs) (suc (openOf k xs)) ≤ suc (length xs)
+    by true h = omega arith
+    by false h = omega arith
+
+-- at member i of n, with so many counted
+pub record Tallying (k : ℕ) (src : List ℕ) (n so-far i : ℕ) : Type 0 where
+  pub counted : n ≡ length (decode src)
+  pub all : so-far + openOf k (drop i (decode src)) ≡ openOf k (decode src)
+  pub few : so-far ≤ i
+
+pub tally-start : {src : List ℕ} {n : ℕ} (k : ℕ) → n ≡ length (decode src) → Tallying k src n 0 0
+tally-start k e = record { counted = e; all = omega arith; few = omega arith }
+
+pub tally-more : {k n m i d : ℕ} {src : List ℕ} {x : Terminals} → Tallying k src n m i → i < n → x ≡ memberAt src (2 * i + 1) → d ≡ openOf k (x ∷ []) → Tallying k src n (m + d) (i + 1)
+tally-more {k} {i = i} {src = src} {x = x} t turn at e =
+    let rest = drop (i + 1) (decode src) in
+    record {
+      counted = t .counted;
+      all = omega (arith, t .all, ap (openOf k) (next-member src (t .counted) turn at), open-more k x rest);
+      few = omega (arith, t .few, open-few k (x ∷ []));
+    }
+
+-- where none of the members that are left is open
+pub tally-stop : {k n m i : ℕ} {src : List ℕ} → Tallying k src n m i → openOf k (drop i (decode src)) ≡ 0 → m ≡ openOf k (decode src)
+tally-stop t e = omega (arith, t .all)
+
+pub tally-done : {k n m i : ℕ} {src : List ℕ} → Tallying k src n m i → n ≤ i → m ≡ openOf k (decode src)
+unfolding openOf
+tally-done {k} {src = src} t h = omega (arith, t .all, ap (openOf k) (none-left src (t .counted) h))
+
+-- where none is open each member of the first set stays in a join
+pub none-open : (k : ℕ) (xs ys : List Terminals) → openOf k xs ≡ 0 → pairsOf k xs ys ≡ xs
+unfolding openOf
+none-open k [] ys e = refl
+none-open k (x ∷ xs) ys e = by (completeIn k (reads x)) e (λ h. none-open k xs ys h)
+  where
+    by : (t : Bool) → cond t (openOf k xs) (suc (openOf k xs)) ≡ 0 → (openOf k xs ≡ 0 → pairsOf k xs ys ≡ xs) → cond t (x ∷ []) (joinsOf k x ys) ++ pairsOf k xs ys ≡ x ∷ xs
+    by true h rest = ap (λ (l : List Terminals). x ∷ l) (rest h)
+    by false h rest = absurd (omega arith)

@@ -1,19 +1,20 @@
 -- The vocabulary of the inner functions of src/set.rt: where a member goes, which words are used, what a loop tells. No public promise names any of it. Assumes nothing.
 use mathlib.Core.Path.{_≡_}
-use mathlib.Core.Bool.{true, cond}
+use mathlib.Core.Bool.{Bool, true, cond}
 use mathlib.Core.List.{List, _∷_, _++_}
 use Prim.Native.Nat.{ℕ, _+_, _*_, _≤_, _<_}
-use lib.ListN.{length, getD, take, drop, replicate}
+use lib.ListN.{length, take, drop, replicate}
 use lib.Seq.{slice}
 use Rattle.k_tuple.specs.declared.Terminals.{Terminals}
-use Rattle.k_tuple.specs.Packed.{lessOf}
+use Rattle.k_tuple.specs.Strings.{countField}
+use Rattle.k_tuple.specs.Packed.{number-of, lessOf}
 use Rattle.k_tuples.specs.declared.set.Grown.{Grown}
-use Rattle.k_tuples.specs.Members.{rank}
-use Rattle.k_tuples.specs.Words.{memberAt, decode, isFull}
+use Rattle.k_tuples.specs.Members.{rank, openOf}
+use Rattle.k_tuples.specs.Words.{memberAt, countIn, encode, decode, isFull}
 
 -- the words that a set uses: the count and the members
 pub record Used (ws : List ℕ) (n : ℕ) : Type 0 where
-  pub is : n ≡ 2 * getD ws 0 0 + 1
+  pub is : n ≡ 2 * countIn ws + 1
   pub within : n ≤ length ws
 
 -- x belongs at place p of a set, and does not stand there
@@ -25,6 +26,15 @@ pub record Absent (x : Terminals) (ws : List ℕ) (p : ℕ) : Type 0 where
 unfoldable pub withGap : ℕ → ℕ → Terminals → List ℕ → List ℕ
 withGap a e x ws = take a ws ++ x .lo ∷ x .hi ∷ slice a e ws ++ drop (e + 2) ws
 
+-- what the test for long strings tells
+pub record Long (k : ℕ) (x : Terminals) (r : Bool) : Type 0 where
+  pub slots : r ≡ true → k ≤ countField (number-of x)
+  pub some : r ≡ true → 1 < countField (number-of x)
+
 -- zeros instead of words that did not take the set
 abbrev pub orZeros : Grown → List ℕ → List ℕ
 orZeros g ws = cond (isFull g) (replicate (length ws) 0) ws
+
+-- words with the number that is true at k, unless the set had no room
+abbrev pub finished : ℕ → Grown → List ℕ → List ℕ
+finished k g ws = cond (isFull g) ws (encode (openOf k (decode ws)) (length ws) (decode ws))

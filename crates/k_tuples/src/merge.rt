@@ -12,6 +12,7 @@ use crate::set::count;
 use crate::set::member;
 use crate::set::place;
 use crate::set::read;
+use crate::set::room;
 use crate::set::set_count;
 use k_tuple::Terminals;
 
@@ -145,7 +146,7 @@ pub fn unite(dst: &mut [u64], src: &[u64]) -> Grown
 {
     let p = place(dst, member(src, 0));
     let n = union_count(dst, src, p);
-    if (dst.len() - 1) / 2 < n {
+    if room(dst.len()) < n {
         return Grown::Full;
     }
     if n <= count(dst) {

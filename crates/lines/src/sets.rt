@@ -4,6 +4,7 @@ use crate::text::put;
 use crate::text::put_number;
 use crate::text::put_text;
 use crate::wide;
+use k_tuples::set::counted;
 use lookahead::Terminals;
 use lookahead::set_of;
 
@@ -75,7 +76,7 @@ fn put_members(out: &mut [u8], at: usize, set: &[u64]) -> usize
         return at;
     }
     let mut next = at;
-    let mut left = set[0];
+    let mut left = counted(set);
     let mut i = 1;
     let last = set.len() - 1;
     while i < last {

@@ -1,4 +1,5 @@
-// Sets in lent words: {[5]}, {[5], [6]}, and what is made of them in eight words, of which so many are lent.
+// Sets in lent words: {[5]}, {[5], [6]}, and what is made of them in eight words, of which so many are lent. At 2 all their members are unfinished, which
+// the upper half of a count word says; at 1 none is.
 ghost use Prim.Native.Nat.{_≤_};
 use crate::print::MARK;
 use crate::print::line_2;
@@ -72,9 +73,10 @@ fn others(a: &[u64], b: &[u64]) {
 }
 
 fn tests(a: &[u64], b: &[u64]) {
+    let at_one = [2, 5, ONE, 6, ONE];
     disjoint(2, a, b, 2);
     disjoint(0, a, b, 0);
-    all_complete(1, b, 2);
+    all_complete(1, &at_one, 2);
     all_complete(2, b, 1);
     all_complete(2, b, 0);
 }
@@ -88,11 +90,24 @@ fn no_sets(a: &[u64], b: &[u64]) {
     all_complete(2, &cut[0..0], 2);
 }
 
+// The numbers of 2 at 1, the first set's or the second's, and a number in a set without members.
+fn wrong_numbers(a: &[u64], b: &[u64]) {
+    let none = [0];
+    let some = [0x0000_0001_0000_0000];
+    union(1, a, &none, 7, 2);
+    intersection(1, &none, b, 7);
+    join_sets(1, b, &none, 7);
+    disjoint(1, &none, a, 2);
+    disjoint(2, &some, b, 2);
+    all_complete(1, b, 2);
+}
+
 pub fn run() {
-    let a = [1, 5, ONE];
-    let b = [2, 5, ONE, 6, ONE];
+    let a = [0x0000_0001_0000_0001, 5, ONE];
+    let b = [0x0000_0002_0000_0002, 5, ONE, 6, ONE];
     unions(&a, &b);
     others(&a, &b);
     tests(&a, &b);
     no_sets(&a, &b);
+    wrong_numbers(&a, &b);
 }

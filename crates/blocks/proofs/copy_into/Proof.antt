@@ -53,8 +53,8 @@ returns c =
     record {
       step = λ k w x h g.
           set-turned (a .to) x
-          (put-set (h .stored) (a .to) (to-in s) (copied _ g (t .ensures) ∙ ap (λ (n : ℕ). setWords n w x) (part-length (h .stored) (a .to) (to-in s)))
-          (record { room = omega (arith, g .room, s .pre .1 .1); sorted = g .sorted; fit = g .fit }));
+          (put-set (h .stored) (a .to) (to-in s) (copied _ g (t .ensures) ∙ ap (λ (n : ℕ). setWords k n w x) (part-length (h .stored) (a .to) (to-in s)))
+          (record { room = omega (arith, g .room, s .pre .1 .1); counted = g .counted; sorted = g .sorted; fit = g .fit }));
     }
 
 pub copy-into-spec : {M : Type 1} → statement M

@@ -4,7 +4,7 @@ use native.Mathlib.Omega.{arith}
 use lib.ListN.{length}
 use denote.Ref.{now}
 use Rattle.k_tuples.specs.Blocks.{setsIn}
-use Rattle.k_tuples.proofs.Held.{holds-set, well-formed-members, complete-held}
+use Rattle.k_tuples.proofs.Held.{complete-held}
 use Rattle.k_tuples.proofs.Blocks.{in-sets, part-room, part-holds}
 use borrow.Author.Needs.{needs}
 use Rattle.blocks.proofs.is_complete.Statement.{statement}
@@ -22,28 +22,27 @@ mul-from c = omega (arith, room (c .before))
 add-end : tie.Need-add-end
 add-end c = omega (arith, room (c .before))
 
-mul-all-complete : tie.Need-mul-all-complete
-mul-all-complete c = omega (arith, room (c .before))
+mul-number : tie.Need-mul-number
+mul-number c = omega (arith, room (c .before))
 
-sub-all-complete : tie.Need-sub-all-complete
-sub-all-complete c = search needs
+sub-number : tie.Need-sub-number
+sub-number c = search needs
 
-part-all-complete-start : tie.Need-part-all-complete-start
-part-all-complete-start c = search needs
+part-number-start : tie.Need-part-number-start
+part-number-start c = search needs
 
-part-all-complete-end : tie.Need-part-all-complete-end
-part-all-complete-end c = omega (arith, room (c .before))
+part-number-end : tie.Need-part-number-end
+part-number-end c = omega (arith, room (c .before))
 
-all-complete-requires : tie.Need-all-complete-requires
-all-complete-requires c κs =
+number-requires : tie.Need-number-requires
+number-requires c κs =
     let s = c .before .before in
-    let h = part-holds (s .pre .0 .store .stored) (s .args .at) (at-in s) in
-    (holds-set h, well-formed-members h)
+    omega (arith, part-holds (s .pre .0 .store .stored) (s .args .at) (at-in s) .room)
 
 returns : tie.Need-returns
 returns c =
     let s = c .before .before .before in
-    record { step = λ j w f. complete-held (s .args .k) (part-holds (f .stored) (s .args .at) (in-sets f (s .pre .1))) (c .all-complete .ensures) }
+    record { step = λ w f. complete-held (part-holds (f .stored) (s .args .at) (in-sets f (s .pre .1))) (c .number .ensures) }
 
 pub is-complete-spec : {M : Type 1} → statement M
 is-complete-spec =
@@ -51,9 +50,9 @@ is-complete-spec =
     (tie.spec
     mul-from
     add-end
-    mul-all-complete
-    sub-all-complete
-    part-all-complete-start
-    part-all-complete-end
-    all-complete-requires
+    mul-number
+    sub-number
+    part-number-start
+    part-number-end
+    number-requires
     returns)

@@ -9,7 +9,6 @@ use Rattle.k_tuple.specs.Strings.{Str}
 use Rattle.k_tuples.specs.States.{setOf}
 use Rattle.k_tuples.specs.Blocks.{setsIn, putAt}
 use Rattle.blocks.specs.Stores.{Filled}
-use Rattle.k_tuples.proofs.Held.{holds-set, can-join, joined-into}
 use Rattle.k_tuples.proofs.Blocks.{in-sets, part-room, part-holds}
 use Rattle.blocks.proofs.Stores.{block-filled, add-joins}
 use borrow.Author.Needs.{needs}
@@ -28,22 +27,22 @@ mul-at c = omega (arith, room (c .before .before .before))
 add-end : tie.Need-add-end
 add-end c = omega (arith, room (c .before .before .before))
 
-mul-join-into : tie.Need-mul-join-into
-mul-join-into c = omega (arith, room (c .before .before .before))
+mul-join-more : tie.Need-mul-join-more
+mul-join-more c = omega (arith, room (c .before .before .before))
 
-sub-join-into : tie.Need-sub-join-into
-sub-join-into c = search needs
+sub-join-more : tie.Need-sub-join-more
+sub-join-more c = search needs
 
-part-join-into-start : tie.Need-part-join-into-start
-part-join-into-start c = search needs
+part-join-more-start : tie.Need-part-join-more-start
+part-join-more-start c = search needs
 
-part-join-into-end : tie.Need-part-join-into-end
-part-join-into-end c = omega (arith, room (c .before .before .before))
+part-join-more-end : tie.Need-part-join-more-end
+part-join-more-end c = omega (arith, room (c .before .before .before))
 
-join-into-requires : tie.Need-join-into-requires
-join-into-requires c κs = let s = c .before .before .before .before in
+join-more-requires : tie.Need-join-more-requires
+join-more-requires c κs = let s = c .before .before .before .before in
     let p = s .pre .0 in
-    (holds-set (part-holds (p .store .stored) (s .args .out) (out-in s)), (holds-set (p .first), (holds-set (p .second), can-join (p .short) (p .first) (p .second))))
+    record { width = p .width; a = _; x = p .x; y = p .y; some = p .some; short = p .short; held = part-holds (p .store .stored) (s .args .out) (out-in s); first = p .first; second = p .second }
 
 same-length : tie.Need-same-length
 same-length c = search needs
@@ -52,14 +51,14 @@ returns : tie.Need-returns
 returns c =
     let s = c .before .before .before .before .before .before .before in
     let a = s .args in
-    let j = c .before .before .join-into in
+    let j = c .before .before .join-more in
     let old = setOf (setsIn (a .b) (a .m) (now (a .words))) (a .out) in
     record {
       step = λ w x y h f g.
           let here = part-holds (h .stored) (a .out) (out-in s) in
           subst (λ (new : List Str). Filled (a .k) w (a .b) (a .m) (a .out) (length old) new (j .result) (now (a .words)) (putAt (a .b) (a .out) (j .last .0) (now (a .words))))
           (add-joins (a .k) old x y (here .sorted))
-          (block-filled h (a .out) (s .pre .1) (joined-into (s .pre .0 .some) (s .pre .0 .short) f g here (j .ensures)) (j .kept .0));
+          (block-filled h (a .out) (s .pre .1) (j .ensures .step w old x y here f g) (j .kept .0));
     }
 
 pub join-add-spec : {M : Type 1} → statement M
@@ -68,10 +67,10 @@ join-add-spec =
     (tie.spec
     mul-at
     add-end
-    mul-join-into
-    sub-join-into
-    part-join-into-start
-    part-join-into-end
-    join-into-requires
+    mul-join-more
+    sub-join-more
+    part-join-more-start
+    part-join-more-end
+    join-more-requires
     same-length
     returns)

@@ -4,7 +4,6 @@ use native.Mathlib.Omega.{arith}
 use lib.ListN.{length}
 use denote.Ref.{now}
 use Rattle.k_tuples.specs.Blocks.{setsIn}
-use Rattle.k_tuples.proofs.Held.{holds-set, can-join, joined-over}
 use Rattle.k_tuples.proofs.Blocks.{in-sets, part-room, part-holds}
 use Rattle.blocks.proofs.Stores.{block-filled}
 use borrow.Author.Needs.{needs}
@@ -23,22 +22,22 @@ mul-at c = omega (arith, room (c .before .before .before))
 add-end : tie.Need-add-end
 add-end c = omega (arith, room (c .before .before .before))
 
-mul-join-sets-over : tie.Need-mul-join-sets-over
-mul-join-sets-over c = omega (arith, room (c .before .before .before))
+mul-join-over : tie.Need-mul-join-over
+mul-join-over c = omega (arith, room (c .before .before .before))
 
-sub-join-sets-over : tie.Need-sub-join-sets-over
-sub-join-sets-over c = search needs
+sub-join-over : tie.Need-sub-join-over
+sub-join-over c = search needs
 
-part-join-sets-over-start : tie.Need-part-join-sets-over-start
-part-join-sets-over-start c = search needs
+part-join-over-start : tie.Need-part-join-over-start
+part-join-over-start c = search needs
 
-part-join-sets-over-end : tie.Need-part-join-sets-over-end
-part-join-sets-over-end c = omega (arith, room (c .before .before .before))
+part-join-over-end : tie.Need-part-join-over-end
+part-join-over-end c = omega (arith, room (c .before .before .before))
 
-join-sets-over-requires : tie.Need-join-sets-over-requires
-join-sets-over-requires c κs = let s = c .before .before .before .before in
+join-over-requires : tie.Need-join-over-requires
+join-over-requires c κs = let s = c .before .before .before .before in
     let p = s .pre .0 in
-    (holds-set (part-holds (p .store .stored) (s .args .out) (out-in s)), (holds-set (p .first), (holds-set (p .second), can-join (p .short) (p .first) (p .second))))
+    record { width = p .width; a = _; x = p .x; y = p .y; some = p .some; short = p .short; held = part-holds (p .store .stored) (s .args .out) (out-in s); first = p .first; second = p .second }
 
 same-length : tie.Need-same-length
 same-length c = search needs
@@ -47,11 +46,11 @@ returns : tie.Need-returns
 returns c =
     let s = c .before .before .before .before .before .before .before in
     let a = s .args in
-    let j = c .before .before .join-sets-over in
+    let j = c .before .before .join-over in
     record {
       step = λ w x y h f g.
           block-filled h (a .out) (s .pre .1)
-          (joined-over (s .pre .0 .some) (s .pre .0 .short) (part-holds (h .stored) (a .out) (out-in s)) f g (j .ensures .0) (j .ensures .1)) (j .kept .0);
+          (j .ensures .step w _ x y (part-holds (h .stored) (a .out) (out-in s)) f g) (j .kept .0);
     }
 
 pub join-into-spec : {M : Type 1} → statement M
@@ -60,10 +59,10 @@ join-into-spec =
     (tie.spec
     mul-at
     add-end
-    mul-join-sets-over
-    sub-join-sets-over
-    part-join-sets-over-start
-    part-join-sets-over-end
-    join-sets-over-requires
+    mul-join-over
+    sub-join-over
+    part-join-over-start
+    part-join-over-end
+    join-over-requires
     same-length
     returns)

@@ -38,7 +38,7 @@ unite-into-requires : tie.Need-unite-into-requires
 unite-into-requires c κs =
     let s = c .before .before .before .before in
     let p = s .pre .0 in (
-      record { k = p .k; width = p .width; x = _; store = p .first; one = part-holds (p .second .stored) (s .args .from) (from-in s) },
+      record { width = p .width; x = _; store = p .first; one = part-holds (p .second .stored) (s .args .from) (from-in s) },
       s .pre .1 .1,
     )
 
@@ -50,7 +50,7 @@ returns c =
     let s = c .before .before .before .before .before .before .before in
     let a = s .args in
     record {
-      step = λ k w f g. c .before .before .unite-into .ensures .step k w (setOf (setsIn (a .b) (a .l) (now (a .src))) (a .from)) f (part-holds (g .stored) (a .from) (from-in s));
+      step = λ w f g. c .before .before .unite-into .ensures .step w (setOf (setsIn (a .b) (a .l) (now (a .src))) (a .from)) f (part-holds (g .stored) (a .from) (from-in s));
     }
 
 pub unite-block-spec : {M : Type 1} → statement M

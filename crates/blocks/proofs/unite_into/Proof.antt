@@ -4,7 +4,6 @@ use native.Mathlib.Omega.{arith}
 use lib.ListN.{length}
 use denote.Ref.{now}
 use Rattle.k_tuples.specs.Blocks.{setsIn}
-use Rattle.k_tuples.proofs.Held.{holds-set, united}
 use Rattle.k_tuples.proofs.Blocks.{in-sets, part-room, part-holds}
 use Rattle.blocks.proofs.Stores.{block-filled}
 use borrow.Author.Needs.{needs}
@@ -23,20 +22,20 @@ mul-at c = omega (arith, room (c .before .before))
 add-end : tie.Need-add-end
 add-end c = omega (arith, room (c .before .before))
 
-mul-union-into : tie.Need-mul-union-into
-mul-union-into c = omega (arith, room (c .before .before))
+mul-unite-one : tie.Need-mul-unite-one
+mul-unite-one c = omega (arith, room (c .before .before))
 
-sub-union-into : tie.Need-sub-union-into
-sub-union-into c = search needs
+sub-unite-one : tie.Need-sub-unite-one
+sub-unite-one c = search needs
 
-part-union-into-start : tie.Need-part-union-into-start
-part-union-into-start c = search needs
+part-unite-one-start : tie.Need-part-unite-one-start
+part-unite-one-start c = search needs
 
-part-union-into-end : tie.Need-part-union-into-end
-part-union-into-end c = omega (arith, room (c .before .before))
+part-unite-one-end : tie.Need-part-unite-one-end
+part-unite-one-end c = omega (arith, room (c .before .before))
 
-union-into-requires : tie.Need-union-into-requires
-union-into-requires c κs = let s = c .before .before .before in (holds-set (part-holds (s .pre .0 .store .stored) (s .args .to) (to-in s)), holds-set (s .pre .0 .one))
+unite-one-requires : tie.Need-unite-one-requires
+unite-one-requires c κs = let s = c .before .before .before in let p = s .pre .0 in record { width = p .width; a = _; x = p .x; held = part-holds (p .store .stored) (s .args .to) (to-in s); one = p .one }
 
 same-length : tie.Need-same-length
 same-length c = search needs
@@ -45,8 +44,8 @@ returns : tie.Need-returns
 returns c =
     let s = c .before .before .before .before .before .before in
     let a = s .args in
-    let u = c .before .before .union-into in
-    record { step = λ k w x h g. block-filled h (a .to) (s .pre .1) (united (part-holds (h .stored) (a .to) (to-in s)) g (u .ensures)) (u .kept .0) }
+    let u = c .before .before .unite-one in
+    record { step = λ w x h g. block-filled h (a .to) (s .pre .1) (u .ensures .step w _ x (part-holds (h .stored) (a .to) (to-in s)) g) (u .kept .0) }
 
 pub unite-into-spec : {M : Type 1} → statement M
 unite-into-spec =
@@ -54,10 +53,10 @@ unite-into-spec =
     (tie.spec
     mul-at
     add-end
-    mul-union-into
-    sub-union-into
-    part-union-into-start
-    part-union-into-end
-    union-into-requires
+    mul-unite-one
+    sub-unite-one
+    part-unite-one-start
+    part-unite-one-end
+    unite-one-requires
     same-length
     returns)

@@ -29,8 +29,8 @@ loop-holds c = let s = c .before .before .before in run-start (s .args .at) (s .
 level-after-requires : tie.Need-level-after-requires Inv-loop μ-loop
 level-after-requires c κs = omega (arith, c .before .before .loop-test .taken, c .before .before .before .before .before .before .before .pre .1 .0 .1)
 
-first-level-requires : tie.Need-first-level-requires Inv-loop μ-loop
-first-level-requires c κs =
+next-level-requires : tie.Need-next-level-requires Inv-loop μ-loop
+next-level-requires c κs =
     let s = c .before .before .before .before .before .before .before .before in
     let number = c .level-after in
     ((run-ready (c .before .before .before .before .loop .inv) (s .pre .0 .0) (number .result) (number .ensures) (omega (arith, number .ensures, c .before .before .before .loop-test .taken, s .pre .1 .0 .1)), s .pre .0 .1), s .pre .1 .1)
@@ -39,16 +39,16 @@ enum-known-l : tie.Need-enum-known-l Inv-loop μ-loop
 enum-known-l c = search needs
 
 same-length : tie.Need-same-length Inv-loop μ-loop
-same-length c = c .before .before .before .before .before .before .before .first-level .kept .0 ∙ result-length (c .before .before .before .before .before .before .before .before .before .before .before .before)
+same-length c = c .before .before .before .before .before .before .before .next-level .kept .0 ∙ result-length (c .before .before .before .before .before .before .before .before .before .before .before .before)
 
 same-length-2 : tie.Need-same-length-2 Inv-loop μ-loop
-same-length-2 c = c .before .before .before .before .before .before .before .first-level .kept .1 .0 ∙ scratch-length (c .before .before .before .before .before .before .before .before .before .before .before .before)
+same-length-2 c = c .before .before .before .before .before .before .before .next-level .kept .1 .0 ∙ scratch-length (c .before .before .before .before .before .before .before .before .before .before .before .before)
 
 returns : tie.Need-returns Inv-loop μ-loop
 returns c =
     let e = c .before .l .given in
     let number = c .before .before .before .before .before .before .before .before .level-after in
-    run-refused (c .before .before .before .before .before .before .before .before .before .before .before .before .loop .inv) (c .before .before .before .before .before .before .before .before .before .before .before .loop-test .taken) (number .result) (number .ensures) (c .before .before .before .before .before .before .before .first-level .ensures) (e .0 .0) (e .1)
+    run-refused (c .before .before .before .before .before .before .before .before .before .before .before .before .loop .inv) (c .before .before .before .before .before .before .before .before .before .before .before .loop-test .taken) (number .result) (number .ensures) (c .before .before .before .before .before .before .before .next-level .ensures) (e .0 .0) (e .1)
 
 enum-known-l-2 : tie.Need-enum-known-l-2 Inv-loop μ-loop
 enum-known-l-2 c = search needs
@@ -69,7 +69,7 @@ loop-again : tie.Need-loop-again Inv-loop μ-loop
 loop-again c =
     let e = c .before .l2 .given in
     let number = c .before .before .before .before .before .before .before .before .level-after in
-    run-more (c .before .before .before .before .before .before .before .before .before .before .before .before .loop .inv) (c .before .before .before .before .before .before .before .before .before .before .before .loop-test .taken) (number .result) (number .ensures) (c .before .before .before .before .before .before .before .first-level .ensures) (c .before .before .before .before .before .before .before .before .before .before .before .before .before .before .before .before .pre .1 .0 .1) (e .0 .0) (e .1)
+    run-more (c .before .before .before .before .before .before .before .before .before .before .before .before .loop .inv) (c .before .before .before .before .before .before .before .before .before .before .before .loop-test .taken) (number .result) (number .ensures) (c .before .before .before .before .before .before .before .next-level .ensures) (c .before .before .before .before .before .before .before .before .before .before .before .before .before .before .before .before .pre .1 .0 .1) (e .0 .0) (e .1)
 
 same-length-3 : tie.Need-same-length-3 Inv-loop μ-loop
 same-length-3 c = result-length (c .before)
@@ -88,7 +88,7 @@ run-levels-spec =
     μ-loop
     loop-holds
     level-after-requires
-    first-level-requires
+    next-level-requires
     enum-known-l
     same-length
     same-length-2

@@ -32,7 +32,6 @@ put-single-requires c κs =
     let s = c .before .before .before .before .before in
     let bounds = s .pre .1 .0 in (
       record {
-        k = 1;
         width = s .args .u .w;
         z = eps;
         store = turned-store (c .before .before .before .loop .inv .1);
@@ -59,7 +58,7 @@ loop-again c =
       subst (λ (F : State). Turned 1 (u .w) (u .b) (u .rsets) F (now (s .args .result)) (put .last .0))
           (repeat-more (l .i) (eps ∷ []) (resultSets u (now (s .args .result))) (in-sets (s .pre .0 .0) (omega (arith, s .pre .1 .1, c .before .before .before .before .before .loop-test .taken))))
           (turned-then (l .inv .1) (λ F. set F (l .i) (eps ∷ []))
-          (put .ensures .step 1 (u .w) eps (turned-store (l .inv .1)) (c .before .before .before .eps .ensures) (eps-fits (u .w) (bounds .0) (bounds .1) 1 (omega arith)))),
+          (put .ensures .step (u .w) eps (turned-store (l .inv .1)) (c .before .before .before .eps .ensures) (eps-fits (u .w) (bounds .0) (bounds .1) 1 (omega arith)))),
     )
 
 same-length : tie.Need-same-length Inv-loop μ-loop

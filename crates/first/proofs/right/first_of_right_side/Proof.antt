@@ -33,7 +33,7 @@ put-single-requires : tie.Need-put-single-requires
 put-single-requires c κs =
     let s = c .before .before .before .before .before .before in
     let ready = s .pre .0 .0 in
-    (record { k = s .args .k; width = s .args .u .w; z = eps; store = ready .result-store; is = c .eps .ensures; fits = fits s }, (s .pre .0 .1 .within, ready .some))
+    (record { width = s .args .u .w; z = eps; store = ready .result-store; is = c .eps .ensures; fits = fits s }, (s .pre .0 .1 .within, ready .some))
 
 same-length-3 : tie.Need-same-length-3
 same-length-3 c = search needs
@@ -44,7 +44,7 @@ returns-2 c =
     let a = s .args in
     placed-made (no-parts (room (a .u)) (a .k) (oldSets (a .u) (now (a .result))) (now (a .right)) (c .before .before .before .before .before .if1 .left))
     (placed-first (eps ∷ []) (s .pre .0 .0)
-    (c .before .before .put-single .ensures .step (a .k) (a .u .w) eps (s .pre .0 .0 .result-store) (c .before .before .before .eps .ensures) (fits s)))
+    (c .before .before .put-single .ensures .step (a .u .w) eps (s .pre .0 .0 .result-store) (c .before .before .before .eps .ensures) (fits s)))
 
 pub first-of-right-side-spec : {M : Type 1} → statement M
 first-of-right-side-spec =

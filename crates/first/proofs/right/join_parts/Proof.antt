@@ -48,7 +48,7 @@ returns : tie.Need-returns Inv-loop μ-loop
 returns c =
     let s = c .before .before .before .before .before .before .before .before in
     walk-stop (c .before .before .before .before .loop .inv) (s .pre .0 .0) (s .pre .0 .1)
-    (sym (c .before .is-complete .ensures .step (s .args .k) (s .args .u .w) (ready (c .before .before .before .before) .result-store)) ∙ c .if1 .taken)
+    (sym (c .before .is-complete .ensures .step (s .args .u .w) (ready (c .before .before .before .before) .result-store)) ∙ c .if1 .taken)
 
 part-end-requires : tie.Need-part-end-requires Inv-loop μ-loop
 part-end-requires c κs = search needs

@@ -1,11 +1,14 @@
 -- `first::right::join_run` meets its contract. Assumes nothing.
+use mathlib.Core.Path.{ap, _∙_}
 use mathlib.Core.List.{_∷_, [], map}
 use Prim.Native.Nat.{_+_, _*_, _≤_, _<_}
 use native.Mathlib.Omega.{arith}
 use lib.ListN.{length, take}
 use denote.Ref.{now}
+use Rattle.k_tuple.specs.Packed.{reads}
+use Rattle.k_tuple.proofs.Closed.{reads-packed}
 use Rattle.k_tuples.specs.States.{setOf}
-use Rattle.k_tuples.specs.Held.{Holds}
+use Rattle.k_tuples.specs.Held.{Fits, Holds}
 use Rattle.k_tuples.proofs.Blocks.{in-sets, part-room, part-holds}
 use Rattle.blocks.proofs.Stores.{only-holds}
 use Rattle.first_theory.specs.Compute.{str}
@@ -23,15 +26,20 @@ at-in c = in-sets (c .pre .0 .0 .result-store) (c .pre .0 .1 .within)
 room : (c : tie.Start) → let a = c .args in let b = a .u .b in a .at * b + b ≤ length (now (a .result))
 room c = part-room (c .pre .0 .0 .result-store .stored) (c .args .at) (at-in c)
 
+-- the run's string is a member of a set at k
+fits : (s : tie.Start) → Fits (s .args .k) (s .args .u .w) (str (take (s .args .k) (map half (now (s .args .part)))))
+fits s =
+    let a = s .args in
+    let ready = s .pre .0 .0 in
+    let ts = map half (now (a .part)) in
+    run-fits (a .u .w) (ready .wide) (ready .narrow) (a .k) ts (ready .least) (ready .most) (run-slots (a .u) (a .u .w) ts (ready .slots) (s .pre .1 .1))
+
 -- the set of the run's string
 one : (c : tie.After-single) → let a = c .before .before .before .before .before .args in Holds (a .k) (a .u .w) (str (take (a .k) (map half (now (a .part)))) ∷ []) (c .single .result)
 one c =
     let s = c .before .before .before .before .before in
     let a = s .args in
-    let ready = s .pre .0 .0 in
-    let ts = map half (now (a .part)) in
-    only-holds (a .u .w) (str (take (a .k) ts)) (c .single .ensures) (c .before .run-string .ensures)
-    (run-fits (a .u .w) (ready .wide) (ready .narrow) (a .k) ts (ready .least) (ready .most) (run-slots (a .u) (a .u .w) ts (ready .slots) (s .pre .1 .1)))
+    only-holds (a .u .w) (str (take (a .k) (map half (now (a .part))))) (c .single .ensures) (c .before .run-string .ensures) (fits s)
 
 mul-x : tie.Need-mul-x
 mul-x c = omega (arith, room (c .before .before .before))
@@ -46,7 +54,11 @@ run-string-requires c κs =
     ((ready .least, ready .most), ((ready .wide, ready .narrow), (s .pre .1 .0, run-slots (s .args .u) (s .args .u .w) (map half (now (s .args .part))) (ready .slots) (s .pre .1 .1))))
 
 single-requires : tie.Need-single-requires
-single-requires c κs = search needs
+single-requires c κs =
+    let s = c .before .before .before .before in
+    let a = s .args in
+    let z = str (take (a .k) (map half (now (a .part)))) in
+    record { width = a .u .w; str = z; is = ap reads (c .run-string .ensures) ∙ reads-packed (a .u .w) z (fits s .well) }
 
 mul-join-into : tie.Need-mul-join-into
 mul-join-into c = omega (arith, room (c .before .before .before .before .before .before))

@@ -30,7 +30,7 @@ put-single-requires : tie.Need-put-single-requires
 put-single-requires c κs =
     let s = c .before .before .before .before .before in
     let ready = s .pre .0 .0 in
-    (record { k = s .args .k; width = s .args .u .w; z = _; store = ready .result-store; is = c .run-string .ensures; fits = fits s }, (s .pre .0 .1 .within, ready .some))
+    (record { width = s .args .u .w; z = _; store = ready .result-store; is = c .run-string .ensures; fits = fits s }, (s .pre .0 .1 .within, ready .some))
 
 same-length : tie.Need-same-length
 same-length c = search needs
@@ -41,7 +41,7 @@ returns c =
     let a = s .args in
     let z = str (take (a .k) (map half (now (a .part)))) in
     placed-first (z ∷ []) (s .pre .0 .0)
-    (c .before .before .put-single .ensures .step (a .k) (a .u .w) z (s .pre .0 .0 .result-store) (c .before .before .before .run-string .ensures) (fits s))
+    (c .before .before .put-single .ensures .step (a .u .w) z (s .pre .0 .0 .result-store) (c .before .before .before .run-string .ensures) (fits s))
 
 pub put-run-spec : {M : Type 1} → statement M
 put-run-spec = tie.close (tie.spec run-string-requires put-single-requires same-length returns)

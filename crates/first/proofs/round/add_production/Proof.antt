@@ -31,7 +31,7 @@ unite-block-requires c κs =
     let s = c .before .before .before .before .before .before .before .before .before .before .before .before .before in
     let a = s .args in
     let ready = add-ready (a .left) (map symbolOf (now (a .right))) (s .pre .0 .0) (s .pre .0 .1) (c .before .before .before .before .before .before .before .first-of-right-side .ensures) (c .before .before .if1 .left) in (
-      record { k = a .k; width = a .u .w; first = ready .scratch-store; second = ready .result-store },
+      record { width = a .u .w; first = ready .scratch-store; second = ready .result-store },
       (s .pre .0 .1 .within, omega (arith, ready .work, s .pre .1 .0)),
     )
 
@@ -57,7 +57,7 @@ returns-2 c =
     (λ (full : Bool).
     Extended (a .u) (a .at) (a .k) (addOne (a .u) (a .k) (oldSets (a .u) (now (a .result))) (newSets (a .u) (now (a .scratch))) (a .left) γ) full (now (a .result)) (now (a .scratch)) (m .last .0) (f .last .0))
     (sym (c .is-full .ensures))
-    (add-made (a .left) γ (s .pre .0 .0) (s .pre .0 .1) (m .ensures) fits (s .pre .1 .0) (f .ensures .step (a .k) (a .u .w) (ready .scratch-store) (ready .result-store)))
+    (add-made (a .left) γ (s .pre .0 .0) (s .pre .0 .1) (m .ensures) fits (s .pre .1 .0) (f .ensures .step (a .u .w) (ready .scratch-store) (ready .result-store)))
 
 pub add-production-spec : {M : Type 1} → statement M
 add-production-spec =

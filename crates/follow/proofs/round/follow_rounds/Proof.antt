@@ -1,7 +1,7 @@
 -- `round::follow_rounds` meets its contract. The loop's invariant is `Climbing`. Assumes nothing.
 use mathlib.Core.Path.{_∙_}
 use native.Mathlib.Omega.{arith}
-use Rattle.follow.proofs.Climbing.{rounds-fit, Climbing, climb-start, climb-running, result-length, scratch-length, climb-late, climb-over, climb-settled, climb-more}
+use Rattle.follow.proofs.Climbing.{rounds-fit, rounds-fit-by, Climbing, climb-start, climb-running, result-length, scratch-length, climb-late, climb-over, climb-settled, climb-more}
 use borrow.Author.Needs.{needs}
 use Rattle.follow.proofs.round.follow_rounds.Statement.{statement}
 use Rattle.follow.proofs.round.follow_rounds.Tie as tie
@@ -12,14 +12,14 @@ Inv-loop result₀ scratch₀ u k words left₀ done₀ result scratch left done
 abbrev μ-loop : tie.MeasureT-loop
 μ-loop result₀ scratch₀ u k words left₀ done₀ result scratch left done = left
 
-sub-left : tie.Need-sub-left Inv-loop μ-loop
-sub-left c = omega (arith, c .before .before .before .before .pre .ready .some)
+room-requires : tie.Need-room-requires Inv-loop μ-loop
+room-requires c κs = omega (arith, c .before .before .before .pre .ready .some)
 
 mul-left : tie.Need-mul-left Inv-loop μ-loop
-mul-left c = omega (arith, rounds-fit (c .before .before .before .before .before .pre))
+mul-left c = omega (arith, rounds-fit-by (c .before .before .before .before .before .pre) (c .before .room .ensures))
 
 add-left : tie.Need-add-left Inv-loop μ-loop
-add-left c = omega (arith, rounds-fit (c .before .before .before .before .before .pre))
+add-left c = omega (arith, rounds-fit-by (c .before .before .before .before .before .pre) (c .before .room .ensures))
 
 loop-holds : tie.Need-loop-holds Inv-loop μ-loop
 loop-holds c = search climb-start
@@ -57,8 +57,8 @@ returns-2 c = search climb-settled
 enum-told-3 : tie.Need-enum-told-3 Inv-loop μ-loop
 enum-told-3 c = search needs
 
-sub-left-2 : tie.Need-sub-left-2 Inv-loop μ-loop
-sub-left-2 c = search needs
+sub-left : tie.Need-sub-left Inv-loop μ-loop
+sub-left c = search needs
 
 add-done : tie.Need-add-done Inv-loop μ-loop
 add-done c = omega (arith, c .before .before .before .before .before .before .before .before .before .loop-test .taken, c .before .before .before .before .before .before .before .before .before .before .loop .inv .sum, rounds-fit (c .before .before .before .before .before .before .before .before .before .before .before .before .before .before .before .before .pre))
@@ -84,7 +84,7 @@ follow-rounds-spec =
     (tie.spec
     Inv-loop
     μ-loop
-    sub-left
+    room-requires
     mul-left
     add-left
     loop-holds
@@ -99,7 +99,7 @@ follow-rounds-spec =
     same-length-4
     returns-2
     enum-told-3
-    sub-left-2
+    sub-left
     add-done
     loop-less
     loop-again

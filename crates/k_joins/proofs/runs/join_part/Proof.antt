@@ -1,7 +1,7 @@
 -- `k_joins::runs::join_part` meets its contract. Assumes nothing.
 use denote.Ref.{now}
 use native.Mathlib.Omega.{arith}
-use Rattle.k_tuples.proofs.Words.{length-decode}
+use Rattle.k_tuples.proofs.Words.{length-below}
 use Rattle.k_joins.proofs.Joining.{first-formed, well-here, complete-step, eps-step, long-step, class-here}
 use borrow.Author.Needs.{needs}
 use Rattle.k_joins.proofs.runs.join_part.Statement.{statement}
@@ -23,7 +23,7 @@ is-complete-requires : tie.Need-is-complete-requires
 is-complete-requires c κs = well-here (c .before .before .before .before .before .before .before .before .pre .1 .1 .0) (c .before .before .member .ensures) (c .before .before .before .before .before .before .before .before .pre .1 .1 .1)
 
 add-t13 : tie.Need-add-t13
-add-t13 c = omega (arith, length-decode (now (c .before .before .before .before .before .before .before .before .before .before .args .xs)), c .before .before .before .before .before .before .shared-slice-known .given 0)
+add-t13 c = omega (arith, length-below (now (c .before .before .before .before .before .before .before .before .before .before .args .xs)))
 
 returns-2 : tie.Need-returns-2
 returns-2 c = (complete-step (c .before .before .before .before .member .ensures) (c .before .before .before .before .before .before .before .before .before .before .pre .1 .1 .1) (c .before .before .before .before .before .before .before .before .before .before .pre .0 .0) (c .before .is-complete .ensures) (c .if2 .taken), (search needs, search needs))
@@ -32,7 +32,7 @@ is-eps-requires : tie.Need-is-eps-requires
 is-eps-requires c κs = well-here (c .before .before .before .before .before .before .before .before .before .before .pre .1 .1 .0) (c .before .before .before .before .member .ensures) (c .before .before .before .before .before .before .before .before .before .before .pre .1 .1 .1)
 
 add-t15 : tie.Need-add-t15
-add-t15 c = omega (arith, length-decode (now (c .before .before .before .before .before .before .before .before .before .before .before .before .args .xs)), c .before .before .before .before .before .before .before .before .shared-slice-known .given 0)
+add-t15 c = omega (arith, length-below (now (c .before .before .before .before .before .before .before .before .before .before .before .before .args .xs)))
 
 returns-3 : tie.Need-returns-3
 returns-3 c = (eps-step (c .before .before .before .before .before .before .member .ensures) (c .before .before .before .before .before .before .before .before .before .before .before .before .pre .1 .1 .1) (c .before .before .before .before .before .before .before .before .before .before .before .before .pre .0 .0) (c .before .is-eps .ensures) (c .if3 .taken), (search needs, search needs))

@@ -44,7 +44,7 @@ loop-less : tie.Need-loop-less Inv-loop μ-loop
 loop-less c = omega arith
 
 loop-again : tie.Need-loop-again Inv-loop μ-loop
-loop-again c = row-more (c .before .before .before .before .before .before .before .loop .inv) (c .before .before .before .before .before .before .before .before .before .before .before .before .before .pre .1 .1 .0) (c .before .before .before .before .before .before .before .before .before .before .before .before .before .pre .1 .1 .1 .1 .1) (omega arith) (c .before .before .before .before .before .member .ensures) (c .before .before .before .followed .ensures) (c .before .before .push .ensures)
+loop-again c = row-more (c .before .before .before .before .before .before .before .loop .inv) (c .before .before .before .before .before .before .before .before .before .before .before .before .before .pre .1 .1 .0) (c .before .before .before .before .before .before .before .before .before .before .before .before .before .pre .1 .1 .1 .1 .1 .0) (c .before .before .before .before .before .before .before .before .before .before .before .before .before .pre .1 .1 .1 .1 .1 .1) (omega arith) (c .before .before .before .before .before .member .ensures) (c .before .before .before .followed .ensures) (c .before .before .push .ensures)
 
 same-length : tie.Need-same-length Inv-loop μ-loop
 same-length c = search needs

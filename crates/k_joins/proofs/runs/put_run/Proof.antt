@@ -1,7 +1,7 @@
 -- `k_joins::runs::put_run` meets its contract. Its loop is a `Running`. Assumes nothing.
 use Prim.Native.Nat.{_-_}
 use native.Mathlib.Omega.{arith}
-use Rattle.k_joins.proofs.Running.{Running, run-start, run-words, run-place, run-room, run-more, run-part, run-stopped, pair-row}
+use Rattle.k_joins.proofs.Running.{Running, run-start, run-words, run-place, run-room, run-counted, run-more, run-part, run-stopped, pair-row}
 use borrow.Author.Needs.{needs}
 use Rattle.k_joins.proofs.runs.put_run.Statement.{statement}
 use Rattle.k_joins.proofs.runs.put_run.Tie as tie
@@ -34,7 +34,7 @@ member-requires : tie.Need-member-requires Inv-loop μ-loop
 member-requires c κs = (search needs, omega arith)
 
 put-row-requires : tie.Need-put-row-requires Inv-loop μ-loop
-put-row-requires c κs = ((search needs, search pair-row), (omega arith, (search needs, (search run-words, (search run-place, search run-room)))))
+put-row-requires c κs = ((search needs, search pair-row), (omega arith, (search needs, (search run-words, (search run-place, (search run-room, search run-counted))))))
 
 add-n : tie.Need-add-n Inv-loop μ-loop
 add-n c = omega arith

@@ -1,5 +1,8 @@
 -- `k_tuples::merge::unite` meets its contract. Assumes nothing.
-use Rattle.k_tuples.proofs.Words.{set-some}
+use native.Mathlib.Omega.{arith}
+use lib.ListN.{length}
+use denote.Ref.{now}
+use Rattle.k_tuples.proofs.Words.{set-some, room-counted}
 use Rattle.k_tuples.proofs.Merging.{begin-at, unite-full, unite-same, unite-added}
 use borrow.Author.Needs.{needs}
 use Rattle.k_tuples.proofs.merge.unite.Statement.{statement}
@@ -14,8 +17,8 @@ place-requires c κs = search needs
 union-count-requires : tie.Need-union-count-requires
 union-count-requires c κs = ((search needs, search needs), search begin-at)
 
-sub-if1 : tie.Need-sub-if1
-sub-if1 c = search (needs, set-some)
+room-requires : tie.Need-room-requires
+room-requires c κs = search (needs, set-some)
 
 same-length : tie.Need-same-length
 same-length c = search needs
@@ -33,10 +36,14 @@ returns-2 : tie.Need-returns-2
 returns-2 c = search unite-same
 
 merge-back-requires : tie.Need-merge-back-requires
-merge-back-requires c κs = (((search needs, search needs), search begin-at), (search needs, search needs))
+merge-back-requires c κs = (((search needs, search needs), search begin-at), (search needs, omega (arith, c .before .before .before .before .before .room .ensures)))
 
 set-count-requires : tie.Need-set-count-requires
-set-count-requires c κs = search needs
+set-count-requires c κs =
+    let r = c .before .before .before .before .before .before .before .before .before in
+    let s = r .before .before .before .before .before .before .before .before in
+    let n = r .before .union-count .result in
+    (omega (arith, set-some (s .pre .0 .0), c .before .before .before .merge-back .kept .0), room-counted n (length (now (s .args .dst))) (omega (arith, r .room .ensures)))
 
 same-length-3 : tie.Need-same-length-3
 same-length-3 c = search needs
@@ -51,7 +58,7 @@ unite-spec =
     member-requires
     place-requires
     union-count-requires
-    sub-if1
+    room-requires
     same-length
     returns
     count-requires

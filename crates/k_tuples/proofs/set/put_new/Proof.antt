@@ -2,7 +2,7 @@
 use Prim.Native.Nat.{_≤_}
 use native.Mathlib.Omega.{arith}
 use Rattle.k_tuples.proofs.Words.{set-room}
-use Rattle.k_tuples.proofs.Inserting.{insert-full, insert-added, place-le}
+use Rattle.k_tuples.proofs.Inserting.{insert-full, insert-most, insert-added, place-le}
 use borrow.Author.Needs.{needs}
 use Rattle.k_tuples.proofs.set.put_new.Statement.{statement}
 use Rattle.k_tuples.proofs.set.put_new.Tie as tie
@@ -26,11 +26,17 @@ same-length c = search needs
 returns : tie.Need-returns
 returns c = search insert-full
 
+same-length-2 : tie.Need-same-length-2
+same-length-2 c = search needs
+
+returns-2 : tie.Need-returns-2
+returns-2 c = search insert-most
+
 mul-put-in : tie.Need-mul-put-in
-mul-put-in c = omega (arith, within (c .before .before))
+mul-put-in c = omega (arith, within (c .before .before .before))
 
 add-put-in : tie.Need-add-put-in
-add-put-in c = omega (arith, within (c .before .before))
+add-put-in c = omega (arith, within (c .before .before .before))
 
 mul-put-in-2 : tie.Need-mul-put-in-2
 mul-put-in-2 c = search needs
@@ -39,7 +45,7 @@ add-put-in-2 : tie.Need-add-put-in-2
 add-put-in-2 c = search needs
 
 put-in-requires : tie.Need-put-in-requires
-put-in-requires c κs = omega (arith, within (c .before .before))
+put-in-requires c κs = omega (arith, within (c .before .before .before))
 
 add-set-count : tie.Need-add-set-count
 add-set-count c = search needs
@@ -47,11 +53,11 @@ add-set-count c = search needs
 set-count-requires : tie.Need-set-count-requires
 set-count-requires c κs = search needs
 
-same-length-2 : tie.Need-same-length-2
-same-length-2 c = search needs
+same-length-3 : tie.Need-same-length-3
+same-length-3 c = search needs
 
-returns-2 : tie.Need-returns-2
-returns-2 c = search insert-added
+returns-3 : tie.Need-returns-3
+returns-3 c = search insert-added
 
 pub put-new-spec : {M : Type 1} → statement M
 put-new-spec =
@@ -62,6 +68,8 @@ put-new-spec =
     sub-if1
     same-length
     returns
+    same-length-2
+    returns-2
     mul-put-in
     add-put-in
     mul-put-in-2
@@ -69,5 +77,5 @@ put-new-spec =
     put-in-requires
     add-set-count
     set-count-requires
-    same-length-2
-    returns-2)
+    same-length-3
+    returns-3)

@@ -16,8 +16,8 @@ abbrev μ-loop : tie.MeasureT-loop
 returns : tie.Need-returns Inv-loop μ-loop
 returns c = search needs
 
-shared-slice-read-left : tie.Need-shared-slice-read-left Inv-loop μ-loop
-shared-slice-read-left c = search needs
+counted-requires : tie.Need-counted-requires Inv-loop μ-loop
+counted-requires c κs = search needs
 
 sub-last : tie.Need-sub-last Inv-loop μ-loop
 sub-last c = search needs
@@ -74,7 +74,7 @@ put-members-spec =
     Inv-loop
     μ-loop
     returns
-    shared-slice-read-left
+    counted-requires
     sub-last
     loop-holds
     same-length
