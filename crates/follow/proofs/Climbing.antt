@@ -1,5 +1,5 @@
 -- The rounds, up to the first that adds nothing. The invariant is `Climbing`: `left` rounds more after `done`, from the FOLLOW sets as they
--- stand, end as all the rounds do. Assumes nothing.
+-- stand, end as all the rounds do, and each equation is due or has nothing to add. Assumes nothing.
 use Prim.Native.Nat.{ℕ, suc, _+_, _-_, _*_, _≤_, _<_}
 use native.Mathlib.Nat.{le-refl, mul-le-mul-left}
 use native.Mathlib.Numerals.{add-one}
@@ -7,7 +7,7 @@ use native.Mathlib.Omega.{arith}
 use mathlib.Core.Path.{_≡_, refl, sym, ap, ap₂, _∙_, subst}
 use mathlib.Core.Bool.{Bool, true, false}
 use mathlib.Core.List.{List}
-use lib.ListN.{length}
+use lib.ListN.{length, replicate}
 use Rattle.k_tuples.specs.States.{State, sameSets}
 use Rattle.k_tuples.specs.Words.{isFull}
 use Rattle.k_tuples.specs.Work.{Answer, got, Settling, settle}
@@ -20,8 +20,10 @@ use Rattle.first.specs.declared.Setup.{Setup}
 use Rattle.first.specs.Steps.{oldSets, room}
 use Rattle.follow_theory.specs.Follow.{takeAll}
 use Rattle.first.specs.declared.Ending.the-variants.{Settled, Refused}
+use Rattle.follow.specs.Due.{Due}
 use Rattle.follow.specs.Steps.{firstSets, followSets, placeSets, occurrences, Stands, Running, roundTold, RoundDone, Rounded, Ended}
 use Rattle.follow.proofs.Growing.{settle-over, settle-end, settle-next}
+use Rattle.follow.proofs.Lowering.{due-start}
 use Rattle.follow.proofs.Standing.{stands-start, row-first, row-follow, row-places, row-old, stands-then, still-running}
 
 told-same : (b : Bool) → Same ≡ roundTold b → b ≡ true
@@ -50,22 +52,25 @@ module _ (u : Setup) (k : ℕ) (words result₀ scratch₀ : List ℕ) where
   abbrev answer : Answer Settling
   answer = settle round 11 (suc (u .n * room u)) 0 (followSets u result₀)
 
-  pub record Climbing (left done : ℕ) (result scratch : List ℕ) : Type 0 where
+  pub record Climbing (left done : ℕ) (result scratch due : List ℕ) : Type 0 where
     pub sets : State
     pub stands : Stands u k (firstSets u result₀) sets (placeSets u result₀) result₀ scratch₀ result scratch
     pub sum : left + done ≡ u .n * room u + 1
     pub to-come : settle round 11 left done sets ≡ answer
+    pub to-take : Due u k words 0 result due
 
   module _ (run : Running u k words result₀ scratch₀) where
-    pub climb-start : {m : ℕ} → m ≡ room u → Climbing (u .n * m + 1) 0 result₀ scratch₀
-    climb-start {m} e = subst (λ (n : ℕ). Climbing (u .n * n + 1) 0 result₀ scratch₀) (sym e) (record {
+    -- every equation is due
+    pub climb-start : {m : ℕ} → m ≡ room u → Climbing (u .n * m + 1) 0 result₀ scratch₀ (replicate 128 (u .rsets - (u .n + u .p + u .n)))
+    climb-start {m} e = subst (λ (n : ℕ). Climbing (u .n * n + 1) 0 result₀ scratch₀ (replicate 128 (u .rsets - (u .n + u .p + u .n)))) (sym e) (record {
       sets = followSets u result₀;
       stands = stands-start (run .suffixed .grammatical) (run .ready) (run .copied);
       sum = omega arith;
       to-come = ap (λ (n : ℕ). settle round 11 n 0 (followSets u result₀)) (add-one (u .n * room u));
+      to-take = due-start result₀ (run .suffixed .grammatical);
     })
 
-    module _ {left done : ℕ} {result scratch : List ℕ} (h : Climbing left done result scratch) where
+    module _ {left done : ℕ} {result scratch due : List ℕ} (h : Climbing left done result scratch due) where
       -- as long as at entry
       pub result-length : length result ≡ length result₀
       result-length = turned-length (h .stands .row .turned) (run .ready .result-store)
@@ -133,8 +138,8 @@ module _ (u : Setup) (k : ℕ) (words result₀ scratch₀ : List ℕ) where
               scratch-beyond = t .scratch-beyond ∙ turned-beyond (h .stands .in-scratch);
             }
 
-        pub climb-more : r ≡ Added → Climbing (left - 1) (done + 1) result′ scratch′
-        climb-more e =
+        pub climb-more : r ≡ Added → {due′ : List ℕ} → Due u k words 0 result′ due′ → Climbing (left - 1) (done + 1) result′ scratch′ due′
+        climb-more e to-take =
             let f : isFull r ≡ false = ap isFull e in
             record {
               sets = d f .new;
@@ -142,4 +147,5 @@ module _ (u : Setup) (k : ℕ) (words result₀ scratch₀ : List ℕ) where
               sum = omega (arith, h .sum);
               to-come = ap (λ (n : ℕ). settle round 11 (left - 1) n (d f .new)) (add-one done)
                   ∙ sym (counted f ∙ settle-next round 11 (left - 1) done (h .sets) (d f .new) (new-here f) (told-added _ (sym e ∙ new-told f)));
+              to-take = to-take;
             }

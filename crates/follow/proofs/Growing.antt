@@ -31,13 +31,14 @@ grows-start F = record { idle = λ e. refl; more = λ (e : false ≡ true). let 
 pub union-whole : (a j : List Str) → Sorted a → length (union a j) ≤ length a → a ≡ union a j
 union-whole a j s l = part-whole a (union a j) s (union-sorted a j s) (union-grows a j) l
 
+-- its store changes nothing
+pub union-unchanged : (G : State) (t : ℕ) (j : List Str) → Sorted (setOf G t) → length (union (setOf G t) j) ≤ length (setOf G t) → set G t (union (setOf G t) j) ≡ G
+union-unchanged G t j s l = rw (← union-whole (setOf G t) j s l) (set-getD G t _)
+
 -- one union more
 module _ {F G : State} {added : Bool} (h : Grows F G added) (t : ℕ) (j : List Str) where
   pub grows-same : Sorted (setOf G t) → length (union (setOf G t) j) ≤ length (setOf G t) → Grows F (set G t (union (setOf G t) j)) added
-  grows-same s l =
-      let a = setOf G t in
-      let same : set G t (union a j) ≡ G = rw (← union-whole a j s l) (set-getD G t _) in
-      rw same h
+  grows-same s l = rw (union-unchanged G t j s l) h
 
   pub grows-added : t < length G → length (setOf G t) < length (union (setOf G t) j) → Grows F (set G t (union (setOf G t) j)) true
   grows-added i l = record {

@@ -1,10 +1,12 @@
 pub mod Suffixes
 pub mod Growing
+pub mod Idling
 pub mod Seeking
 pub mod Zones
 pub mod Passes
 pub mod Standing
 pub mod Way
+pub mod Lowering
 pub mod Rounding
 pub mod Climbing
 pub mod Starting

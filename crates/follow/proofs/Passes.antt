@@ -14,11 +14,14 @@ use Rattle.k_tuple.specs.Strings.{Str}
 use Rattle.k_tuples.specs.Sets.{Sorted, union, joinSets}
 use Rattle.k_tuples.specs.States.{State, setOf, each-none, each-more}
 use Rattle.k_tuples.specs.Work.{Answer, got, refused, _>>=_, within}
+use Rattle.k_tuples.proofs.Sets.{union-idle, union-added}
 use Rattle.first_theory.specs.Compute.{rightSide}
 use Rattle.follow_theory.specs.Follow.{Occurrence, takeAll, positionSets}
 use Rattle.follow.specs.Suffixes.{Suffixes}
+use Rattle.follow.specs.Due.{Idle}
 use Rattle.follow.proofs.Suffixes.{Refuses, join-ready, take-ready, suffix-refuses, later-refuses}
-use Rattle.follow.proofs.Growing.{Grows, grows-start, grows-same, grows-added}
+use Rattle.follow.proofs.Growing.{Grows, grows-start, union-unchanged, grows-same, grows-added}
+use Rattle.follow.proofs.Idling.{idle-by}
 
 pub within-over : (c : ℕ) (a : List Str) → c < length a → within c a ≡ refused 11
 unfolding within
@@ -99,6 +102,14 @@ module _ (c k : ℕ) (X : State) (os₀ : List Occurrence) where
         ∙ ap (λ (m : Answer State). m >>= takeAll c k X os) (take-ready c k X o (setOf Z i) (suffix-here o os i Z (t .suffixes)) F sorted)
         ∙ then-then (within c joined) (λ u. got (set F (o .target) u)) (takeAll c k X os)
 
+    -- the suffix set of the equation
+    pub taking-suffix : rightSide c k X (o .rest) ≡ got (setOf Z i)
+    taking-suffix = suffix-here o os i Z (t .suffixes)
+
+    -- where it adds nothing, it is idle
+    pub taking-idle : length joined ≤ length (setOf F (o .target)) → Idle c k X F o
+    taking-idle l = idle-by c k X F o (setOf Z i) taking-suffix (union-added (setOf F (o .target)) (joinSets k (setOf Z i) (setOf F (o .source))) sorted l)
+
     pub taking-over : c < length joined → takeAll c k X os₀ F₀ ≡ refused 11
     taking-over h = next ∙ rw (within-over c joined h)
 
@@ -111,6 +122,13 @@ module _ (c k : ℕ) (X : State) (os₀ : List Occurrence) where
 
       pub taking-added : o .target < length F → length (setOf F (o .target)) < length joined → Taking F₀ os (i + 1) Z (set F (o .target) joined) true
       taking-added h l = record { suffixes = suffixes-next o os i Z (t .suffixes); to-come = came; grows = grows-added (t .grows) (o .target) _ h l }
+
+    -- an idle equation is passed over
+    pub taking-skip : length (setOf F (o .target)) ≤ c → Idle c k X F o → Taking F₀ os (i + 1) Z F added
+    taking-skip h idle =
+        let j = joinSets k (setOf Z i) (setOf F (o .source)) in
+        let same : length joined ≡ length (setOf F (o .target)) = ap length (union-idle (setOf F (o .target)) j sorted (idle .has (setOf Z i) taking-suffix)) in
+        rw (union-unchanged F (o .target) j sorted (omega arith)) at (taking-same (omega arith) (omega arith))
 
   -- ---- the positions
 

@@ -12,9 +12,10 @@ use Rattle.k_tuples.specs.States.{State, setOf}
 use Rattle.k_tuples.specs.declared.set.Grown.{Grown}
 use Rattle.k_tuples.specs.declared.set.Grown.the-variants.{Added, Same, Full}
 use Rattle.k_tuples.proofs.Blocks.{kept-at, in-sets, length-sets, part-room, part-holds}
+use Rattle.k_tuples.proofs.Words.{words-room}
 use Rattle.k_tuples.specs.Words.{isFull, grown}
 use Rattle.k_tuples.specs.Held.{Holds}
-use Rattle.k_tuples.specs.Blocks.{partAt}
+use Rattle.k_tuples.specs.Blocks.{partAt, Kept}
 use Rattle.blocks.specs.Stores.{Turned, Filled, Both, CopiedBlock}
 use Rattle.blocks.proofs.Stores.{as-turned, turned-store, turned-sets, turned-beyond, turned-then, filled-turned}
 use Rattle.first.specs.declared.Setup.{Setup}
@@ -165,10 +166,16 @@ module _ {u : Setup} {k : ℕ} {A F Z : State} {result₀ scratch₀ result scra
   }
 
   module _ (target : ℕ) (h : target < u .n) where
-    pub stands-sorted : Sorted (setOf F target)
-    stands-sorted =
+    stands-kept : Kept k (u .w) (u .b) (setOf F target)
+    stands-kept =
         let l : followAt u + target < length (A ++ (F ++ Z)) = rw (length-append A (F ++ Z), length-append F Z) (omega (arith, s .row .before, s .row .many)) in
-        subst Sorted (second-at A F Z (s .row .before) (s .row .many) target h) (kept-at (A ++ (F ++ Z)) (followAt u + target) (s .row .turned .held .kept) l .sorted)
+        subst (Kept k (u .w) (u .b)) (second-at A F Z (s .row .before) (s .row .many) target h) (kept-at (A ++ (F ++ Z)) (followAt u + target) (s .row .turned .held .kept) l)
+
+    pub stands-sorted : Sorted (setOf F target)
+    stands-sorted = stands-kept .sorted
+
+    pub stands-room : length (setOf F target) ≤ room u
+    stands-room = words-room (length (setOf F target)) (u .b) (stands-kept .room) (stands-kept .counted)
 
     module _ (i source : ℕ) (from : source < u .n) where
       -- the set that the equation makes

@@ -26,7 +26,8 @@ pub record Inside (u : Setup) (o : Occurrence) : Type 0 where
   pub source : o .source < u .n
   pub rest : Symbols u (o .rest)
 
-all-inside : (u : Setup) (words : List ℕ) → Grammatical u words → (o : Occurrence) → o ∈ occurrences u words → Inside u o
+-- every occurrence is so
+pub all-inside : (u : Setup) (words : List ℕ) → Grammatical u words → (o : Occurrence) → o ∈ occurrences u words → Inside u o
 all-inside u words g o m =
     let w = grammarIn u words in
     let r = occurs w (w .productions) (λ p i. i) o m in
