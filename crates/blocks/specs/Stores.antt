@@ -1,15 +1,15 @@
 -- Words that are cut into blocks, a set in each: what a call needs of them, and what they hold after it. Where a call's answer and words are the
 -- same whatever the width is, and k where no number of unfinished members is made, its promise holds for all of them, and a caller says which. Assumes nothing.
 use mathlib.Core.Path.{_≡_}
-use mathlib.Core.Bool.{Bool, true}
+use mathlib.Core.Bool.{Bool, true, false}
 use mathlib.Core.List.{List, [], _∷_, _++_}
 use mathlib.Core.Logic.{_≢_}
-use Prim.Native.Nat.{ℕ, _*_, _≤_}
-use lib.ListN.{length, take, drop, set, replicate}
+use Prim.Native.Nat.{ℕ, _*_, _≤_, _<_}
+use lib.ListN.{length, getD, take, drop, set, replicate}
 use Rattle.k_tuple.specs.Strings.{Str, wellFormed}
 use Rattle.k_tuple.specs.Packed.{packed}
 use Rattle.k_tuple.specs.declared.Terminals.{Terminals}
-use Rattle.k_tuples.specs.Sets.{union, joinSets, allComplete}
+use Rattle.k_tuples.specs.Sets.{union, joinSets, allComplete, sameSet}
 use Rattle.k_tuples.specs.States.{State, setOf, sameSets}
 use Rattle.k_tuples.specs.Words.{roomOf, grown}
 use Rattle.k_tuples.specs.Held.{setWords, Fits, Holds}
@@ -136,13 +136,16 @@ pub record Raised (k b m : ℕ) (ws ws′ : List ℕ) : Type 0 where
 pub record EmptiedFirst (b m n : ℕ) (ws ws′ : List ℕ) : Type 0 where
   pub step : (k w : ℕ) → IsStored k w b m ws → Turned k w b m (replicate n [] ++ drop n (setsIn b m ws)) ws ws′
 
--- the first n sets are those of other words, of l sets
-pub record CopiedFirst (b m l n : ℕ) (vs ws ws′ : List ℕ) : Type 0 where
-  pub step : (k w : ℕ) → IsStored k w b m ws → IsStored k w b l vs → Turned k w b m (take n (setsIn b l vs) ++ drop n (setsIn b m ws)) ws ws′
+-- set i has become that of other words, of l sets, and r tells whether it was that before
+pub record TakenBlock (b m l i : ℕ) (r : Bool) (vs ws ws′ : List ℕ) : Type 0 where
+  pub step : (k w : ℕ) → IsStored k w b m ws → IsStored k w b l vs → Turned k w b m (set (setsIn b m ws) i (setOf (setsIn b l vs) i)) ws ws′
+  pub told : (k w : ℕ) → IsStored k w b m ws → IsStored k w b l vs → r ≡ sameSet (setOf (setsIn b l vs) i) (setOf (setsIn b m ws) i)
 
--- whether the first n sets of both words are the same
-pub record ComparedFirst (b m l n : ℕ) (r : Bool) (ws vs : List ℕ) : Type 0 where
-  pub step : (k w : ℕ) → IsStored k w b m ws → IsStored k w b l vs → r ≡ sameSets (take n (setsIn b m ws)) (take n (setsIn b l vs))
+-- the first n sets have become those of other words, of l sets; each mark tells whether a set was that before, and r whether all were
+pub record TakenFirst (b m l n : ℕ) (r : Bool) (vs ws ws′ : List ℕ) (marks : List Bool) : Type 0 where
+  pub step : (k w : ℕ) → IsStored k w b m ws → IsStored k w b l vs → Turned k w b m (take n (setsIn b l vs) ++ drop n (setsIn b m ws)) ws ws′
+  pub told : (k w : ℕ) → IsStored k w b m ws → IsStored k w b l vs → r ≡ sameSets (take n (setsIn b l vs)) (take n (setsIn b m ws))
+  pub marked : (k w : ℕ) → IsStored k w b m ws → IsStored k w b l vs → (i : ℕ) → i < n → getD marks i false ≡ sameSet (setOf (setsIn b l vs) i) (setOf (setsIn b m ws) i)
 
 -- whether every member of set i is complete at k
 pub record AskedComplete (k b m i : ℕ) (r : Bool) (ws : List ℕ) : Type 0 where

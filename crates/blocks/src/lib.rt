@@ -9,7 +9,7 @@ use k_tuples::set::renumber;
 ghost use Prim.Native.Nat.{_≤_, _<_};
 ghost use lib.ListN.{length};
 ghost use Rattle.k_tuple.specs.Packed.{WellFormed};
-ghost use Rattle.blocks.specs.Stores.{Sets, Both, BothAt, WithOne, WithOneAt, WithTwo, WithString, Raisable, Only, PutSingle, Raised, Joined, JoinAdded, United, UnitedBlock, Copied, CopiedBlock, Emptied, EmptiedFirst, CopiedFirst, ComparedFirst, AskedComplete};
+ghost use Rattle.blocks.specs.Stores.{Sets, Both, BothAt, WithOne, WithOneAt, WithTwo, WithString, Raisable, Only, PutSingle, Raised, Joined, JoinAdded, United, UnitedBlock, Copied, CopiedBlock, Emptied, EmptiedFirst, TakenBlock, TakenFirst, AskedComplete};
 
 pub mod one;
 
@@ -159,33 +159,44 @@ pub fn clear_first(words: &mut [u64], b: usize, m: usize, n: usize)
     }
 }
 
-// Copies the first n sets of src to the first n blocks.
-pub fn copy_first(words: &mut [u64], src: &[u64], b: usize, m: usize, l: usize, n: usize)
-    requires { ⌜ Both b m l (now words) (now src) × ((n ≤ m) × (n ≤ l)) ⌝ }
-    ensures { λ _. ⌜ CopiedFirst b m l n (now (src .entry)) (now (words .entry)) (now (words .exit)) ⌝ }
+// Makes block i what it is in src, unless it is that already. Tells whether it is.
+fn take_block(words: &mut [u64], src: &[u64], b: usize, m: usize, l: usize, i: usize) -> bool
+    requires { ⌜ Both b m l (now words) (now src) × ((i < m) × (i < l)) ⌝ }
+    ensures { λ r. ⌜ TakenBlock b m l i r (now (src .entry)) (now (words .entry)) (now (words .exit)) ⌝ }
 {
-    let mut i = 0;
-    while i < n {
-        copy_block(words, src, b, m, l, i, i);
-        i += 1;
+    let at = i * b;
+    let end = at + b;
+    if k_tuples::set::same_set(&src[at..end], &words[at..end]) {
+        return true;
     }
+    copy_block(words, src, b, m, l, i, i);
+    false
 }
 
-// Whether the first n sets of both are the same.
-pub fn same_first(xs: &[u64], ys: &[u64], b: usize, m: usize, l: usize, n: usize) -> bool
-    requires { ⌜ Both b m l (now xs) (now ys) × ((n ≤ m) × (n ≤ l)) ⌝ }
-    ensures { λ r. ⌜ ComparedFirst b m l n r (now (xs .entry)) (now (ys .entry)) ⌝ }
+// Makes the first n blocks those of src, and marks those that were it already. Tells whether all were.
+pub fn take_first(
+    words: &mut [u64],
+    src: &[u64],
+    b: usize,
+    m: usize,
+    l: usize,
+    n: usize,
+    same: &mut [bool],
+) -> bool
+    requires { ⌜ Both b m l (now words) (now src) × ((n ≤ m) × ((n ≤ l) × (n ≤ length (now same)))) ⌝ }
+    ensures { λ r. ⌜ TakenFirst b m l n r (now (src .entry)) (now (words .entry)) (now (words .exit)) (now (same .exit)) ⌝ }
 {
+    let mut all = true;
     let mut i = 0;
     while i < n {
-        let at = i * b;
-        let end = at + b;
-        if k_tuples::set::same_set(&xs[at..end], &ys[at..end]) {} else {
-            return false;
+        let alike = take_block(words, src, b, m, l, i);
+        same[i] = alike;
+        if !alike {
+            all = false;
         }
         i += 1;
     }
-    true
+    all
 }
 
 // Whether every member of block at is complete at k, by the number that is kept.

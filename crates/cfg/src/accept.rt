@@ -4,8 +4,9 @@ use crate::table::read_table;
 use crate::table::span_at;
 ghost use mathlib.Core.Path.{_≡_};
 ghost use Prim.Native.Nat.{_+_, _-_, _*_, _≤_, _<_};
+ghost use mathlib.Core.Bool.{false, not, _&&_};
 ghost use mathlib.Core.List.{map};
-ghost use lib.ListN.{length, take, drop};
+ghost use lib.ListN.{length, getD, take, drop};
 ghost use Rattle.cfg.specs.Written.{productionsOf, symbolOf};
 ghost use Rattle.cfg.specs.Words.{Sound, Below};
 ghost use Rattle.cfg.specs.Corners.{leading, visit, walk, leftRecursive};
@@ -98,7 +99,7 @@ pub fn left_recursive(words: &[u16], n: u16, p: u16, nullable: &[bool; 128]) -> 
 }
 
 // Whether all symbols of a right side are marked, where terminals count as marked if `free`.
-fn all_marked(right: &[u16], free: bool, marks: &[bool; 128]) -> bool
+pub fn all_marked(right: &[u16], free: bool, marks: &[bool; 128]) -> bool
     requires { ⌜ Below 128 (map symbolOf (now right)) ⌝ }
     ensures { λ r. ⌜ r ≡ allMarked free (now (marks .entry)) (map symbolOf (now (right .entry))) ⌝ }
 {
@@ -118,12 +119,31 @@ fn all_marked(right: &[u16], free: bool, marks: &[bool; 128]) -> bool
     true
 }
 
+// Whether a left side is not marked, and all symbols of its right side are.
+fn is_new(right: &[u16], free: bool, marks: &[bool; 128], left: usize) -> bool
+    requires { ⌜ Below 128 (map symbolOf (now right)) × (left < 128) ⌝ }
+    ensures { λ r. ⌜ r ≡ (not (getD (now (marks .entry)) left false) && allMarked free (now (marks .entry)) (map symbolOf (now (right .entry)))) ⌝ }
+{
+    if marks[left] {
+        return false;
+    }
+    all_marked(right, free, marks)
+}
+
+// The marks after a round, and whether one of them is new.
+struct Closing {
+    marks: [bool; 128],
+    grew: bool,
+}
+
 // One round over the productions: marks each left side whose symbols are all marked.
-fn close_round(words: &[u16], p: u16, free: bool, marks: [bool; 128]) -> [bool; 128]
+fn close_round(words: &[u16], p: u16, free: bool, marks: [bool; 128]) -> Closing
     requires { ⌜ Sound 128 p (now words) ⌝ }
-    ensures { λ r. ⌜ r ≡ closeRound free (productionsOf p (now (words .entry))) marks ⌝ }
+    ensures closes { λ r. ⌜ r .marks ≡ closeRound free (productionsOf p (now (words .entry))) marks ⌝ }
+    ensures still { λ r. ⌜ (r .grew ≡ false → r .marks ≡ marks) ⌝ }
 {
     let mut closed = marks;
+    let mut grew = false;
     let mut at: usize = 0;
     let mut i: u16 = 0;
     while i < p {
@@ -131,16 +151,20 @@ fn close_round(words: &[u16], p: u16, free: bool, marks: [bool; 128]) -> [bool; 
         let from = span.from;
         let to = span.to;
         let left = span.left as usize;
-        if all_marked(&words[from..to], free, &closed) {
+        if is_new(&words[from..to], free, &closed, left) {
             closed[left] = true;
+            grew = true;
         }
         at = to;
         i += 1;
     }
-    closed
+    Closing {
+        marks: closed,
+        grew: grew,
+    }
 }
 
-// The nullable nonterminals, or, where terminals are free, the productive ones.
+// The nullable nonterminals, or, where terminals are free, the productive ones: n rounds, of which those behind one that marks nothing change nothing.
 pub fn close(words: &[u16], n: u16, p: u16, free: bool) -> [bool; 128]
     requires { ⌜ Sound 128 p (now words) ⌝ }
     ensures { λ r. ⌜ r ≡ closure free (productionsOf p (now (words .entry))) n ⌝ }
@@ -149,7 +173,10 @@ pub fn close(words: &[u16], n: u16, p: u16, free: bool) -> [bool; 128]
     let mut k: u16 = 0;
     while k < n {
         let more = close_round(words, p, free, closed);
-        closed = more;
+        if !more.grew {
+            return closed;
+        }
+        closed = more.marks;
         k += 1;
     }
     closed

@@ -1,18 +1,22 @@
 -- A level: rounds up to the first whose sets equal those before it. The invariant is `Climbing`: `left` rounds more after `done`, from the sets
 -- as they stand, end as the level does. And all levels, one after the other: `Running`. Assumes nothing.
 use mathlib.Core.Path.{_≡_, refl, sym, ap, ap₂, _∙_, subst}
-use mathlib.Core.Bool.{Bool, true, false}
+use mathlib.Core.Bool.{Bool, true, false, true≢false}
 use mathlib.Core.List.{List, [], _∷_, _++_, append-assoc, append-nil}
 use Prim.Native.Nat.{ℕ, zero, suc, _+_, _-_, _≤_, _<_}
 use native.Mathlib.Nat.{not-suc-le-zero}
 use native.Mathlib.Numerals.{add-one}
 use native.Mathlib.Omega.{arith}
-use lib.ListN.{length, set, take, drop, replicate, length-set, length-replicate}
-use lib.Seq.{take-suc-set, drop-set-lt, drop-drop}
-use Rattle.k_tuple.specs.Strings.{eps}
-use Rattle.k_tuples.specs.States.{State, sameSets}
+use lib.ListN.{length, getD, set, take, drop, replicate, length-set, length-replicate, getD-replicate}
+use lib.Seq.{length-take-le, take-suc-set, drop-set-lt, drop-drop}
+use Rattle.k_tuple.specs.Strings.{Str, eps}
+use Rattle.k_tuples.specs.States.{State, setOf, sameSets}
 use Rattle.k_tuples.specs.Work.{Answer, refused, got, _>>=_, Settling, settle}
 use Rattle.k_tuples.proofs.Lists.{drop-replicate}
+use Rattle.k_tuples.proofs.States.{setOf-replicate}
+use Rattle.k_tuples.proofs.Blocks.{length-sets}
+use Rattle.cfg.specs.Written.{productionsOf}
+use Rattle.cfg.specs.Marks.{noMarks}
 use Rattle.blocks.specs.Stores.{Turned, Raised}
 use Rattle.blocks.proofs.Stores.{turned-store, turned-sets, turned-beyond}
 use Rattle.blocks.proofs.Fronts.{front-start, front-same, front-then, front-all}
@@ -23,9 +27,11 @@ use Rattle.first.specs.declared.round.Round.the-variants.{Same, Changed,
 use Rattle.first.specs.declared.Ending.{Ending}
 use Rattle.first.specs.declared.Ending.the-variants.{Settled, Refused}
 use Rattle.first.specs.declared.level.LevelRounds.{LevelRounds}
-use Rattle.first.specs.Steps.{resultSets, scratchSets, oldSets, room, Ready, ReadyBelow}
+use Rattle.first.specs.Steps.{resultSets, scratchSets, oldSets, room, Ready, ReadyBelow, Free}
 use Rattle.first.specs.Rounds.{grammarIn, InResult, roundFull, roundTold, RoundDone, Rounded}
+use Rattle.first.specs.Due.{dueOf, Known, Alike}
 use Rattle.first.specs.Levels.{Moved, LevelEnds, Levelled, LevelsRun}
+use Rattle.first.proofs.Known.{not-due, agree-below, new-same, round-new}
 
 told-same : (b : Bool) → Same ≡ roundTold b → b ≡ true
 told-same true e = refl
@@ -99,6 +105,32 @@ module _ {u : Setup} {k : ℕ} {result scratch result₁ scratch₁ : List ℕ} 
           → LevelEnds u at k (level (room u) (grammarIn u words) k (oldSets u result)) e result scratch result₂ scratch₂
       by (Settled n) h = (h .0, moved-then (moved-raised at) (h .1))
       by (Refused n) h = h
+
+-- ---- what is due
+
+-- a level begins with all
+pub known-start : {u : Setup} (k : ℕ) (words : List ℕ) (result scratch : List ℕ) → u .n ≤ 128 → Known u k words (replicate 128 true) result scratch
+known-start k words result scratch few =
+    let all : (A : ℕ) → A < 128 → getD (replicate 128 true) A false ≡ false → ⊥ = λ A h e. true≢false (sym (getD-replicate 128 A true false h) ∙ e) in
+    record { again = λ A h e. absurd (all A (omega arith) e); stands = λ A h e. absurd (all A (omega arith) e) }
+
+-- after a round, what it did not touch
+module _ {u : Setup} {at k : ℕ} (words : List ℕ) {result scratch result′ scratch′ : List ℕ} {r : Round} {same : List Bool} (few : u .n ≤ 128) (free : Free u at) (alike : Alike u same result result′)
+    (d : RoundDone u at k (round (room u) (grammarIn u words) k (oldSets u result)) r result scratch result′ scratch′) where
+  old-long : (ws : List ℕ) → length (oldSets u ws) ≡ u .n
+  old-long ws = length-take-le (u .n) (resultSets u ws) (omega (arith, length-sets (u .b) (u .rsets) ws, free .after, free .within))
+
+  pub known-next : Known u k words (dueOf same (productionsOf (u .p) words)) result′ scratch′
+  unfolding round
+  known-next = record {
+    again = λ A h e.
+        let ps = productionsOf (u .p) words in
+        let untouched = not-due same A ps noMarks (omega (arith, length-replicate 128 false)) e .1 in
+        let agree = agree-below same (u .n) (oldSets u result′) (oldSets u result) (old-long result′) (old-long result) (alike .kept) in
+        let given = round-new (room u) k (oldSets u result) A ps (replicate (u .n) []) (d .new) (omega (arith, length-replicate {A = List Str} (u .n) [])) (d .made) in
+        new-same (room u) k same (oldSets u result′) (oldSets u result) agree A ps [] untouched ∙ rw (d .in-result .front) (rw (setOf-replicate (u .n) A) at given);
+    stands = λ A h e. ap (λ (F : State). setOf F A) (d .in-scratch .front ∙ sym (d .in-result .front));
+  }
 
 -- ---- the rounds of a level
 
@@ -176,6 +208,9 @@ module _ {u : Setup} {at k : ℕ} {words result₀ scratch₀ : List ℕ} {left 
 
     pub climb-settled : r ≡ Same → Levelled u at k (level (room u) (grammarIn u words) k (oldSets u result₀)) (Settled (done + 1)) result₀ scratch₀ result′ scratch′
     climb-settled e = settled (m .done (ap roundFull e)) e
+
+    pub climb-known : {same : List Bool} → u .n ≤ 128 → Free u at → r ≡ Changed → (roundFull r ≡ false → Alike u same result result′) → Known u k words (dueOf same (productionsOf (u .p) words)) result′ scratch′
+    climb-known few free e alike = known-next words few free (alike (ap roundFull e)) (m .done (ap roundFull e))
 
     pub climb-more : r ≡ Changed → Climbing u at k words result₀ scratch₀ (left - 1) (done + 1) result′ scratch′
     climb-more e = changed (m .done (ap roundFull e)) e

@@ -3,6 +3,8 @@ pub mod Spelling
 pub mod Short
 pub mod Walk
 pub mod Passing
+pub mod Known
+pub mod Sweeping
 pub mod Rounds
 pub mod Levels
 pub mod Products

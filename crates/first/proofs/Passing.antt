@@ -40,7 +40,7 @@ module _ {u : Setup} {words : List ℕ} {i place : ℕ} (pass : Passing u words 
     abbrev pub rightAt : List Sym
     rightAt = map symbolOf (take (span .to - span .from) (drop (span .from) words))
 
-    pass-split : productionsOf (u .p - i) (drop place words) ≡ record { left = span .left; right = rightAt } ∷ productionsOf (u .p - (i + 1)) (drop (span .to) words)
+    pub pass-split : productionsOf (u .p - i) (drop place words) ≡ record { left = span .left; right = rightAt } ∷ productionsOf (u .p - (i + 1)) (drop (span .to) words)
     pass-split = span-first (u .n) (u .p) words i place (pass .cursor) more span s
 
     pub pass-symbols : Symbols u (map symbolOf (take (span .to - span .from) (drop (span .from) words)))

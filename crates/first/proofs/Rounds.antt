@@ -2,11 +2,11 @@
 -- productions still to come, on the new sets as they stand, give the round's sets. Assumes nothing.
 use mathlib.Core.Path.{_≡_, refl, sym, ap, ap₂, _∙_, subst, subst₂}
 use mathlib.Core.Bool.{Bool, true, false, true≢false, false≢true}
-use mathlib.Core.List.{List, [], _++_, map}
+use mathlib.Core.List.{List, [], _∷_, map, List·Memᴰ, List·Memᴰ·head, List·Memᴰ·tail}
 use Prim.Native.Nat.{ℕ, _+_, _-_, _≤_, _<_}
 use native.Mathlib.Omega.{arith}
 use lib.Dec.{T}
-use lib.ListN.{length, set, take, drop, replicate, length-replicate}
+use lib.ListN.{length, getD, set, take, drop, replicate, length-replicate}
 use lib.Seq.{length-take-le, take-set-le, getD-take}
 use Rattle.k_tuple.specs.Strings.{Str}
 use Rattle.k_tuples.specs.Sets.{union}
@@ -15,24 +15,41 @@ use Rattle.k_tuples.specs.Words.{isFull}
 use Rattle.k_tuples.specs.Work.{Answer, refused, got, _>>=_, within}
 use Rattle.k_tuples.specs.declared.set.Grown.{Grown}
 use Rattle.k_tuples.proofs.Blocks.{length-sets}
-use Rattle.k_tuples.proofs.States.{sameSets-sound}
-use Rattle.blocks.specs.Stores.{Turned}
+use Rattle.k_tuples.proofs.Sets.{sameSet-sound}
+use Rattle.k_tuples.proofs.States.{setOf-replicate}
+use Rattle.blocks.specs.Stores.{TakenFirst}
 use Rattle.blocks.proofs.Stores.{turned-sets, turned-beyond, filled-turned}
 use Rattle.blocks.proofs.Fronts.{front-start, front-then, front-free, front-one, front-all}
-use Rattle.cfg.specs.Grammar.{Sym}
+use Rattle.cfg.specs.Reading.{pick}
+use Rattle.cfg.specs.Grammar.{Sym, Production}
 use Rattle.cfg.specs.declared.table.Span.{Span}
 use Rattle.cfg.specs.Written.{symbolOf, productionsOf}
 use Rattle.cfg.specs.Words.{SpanAt}
 use Rattle.cfg.proofs.Cursor.{span-first}
 use Rattle.first_theory.specs.Compute.{rightSide, roundFrom, round}
 use Rattle.first.specs.declared.Setup.{Setup}
-use Rattle.first.specs.declared.round.Round.the-variants.{Same, Changed, Full}
+use Rattle.first.specs.declared.round.Round.the-variants.{Full}
 use Rattle.first.specs.Steps.{resultSets, scratchSets, oldSets, room, Ready, Free, InWork, Made}
-use Rattle.first.specs.Rounds.{newSets, grammarIn, Rules, InResult, InScratch, addOne, Extended, roundTold, Rounded}
+use Rattle.first.specs.Rounds.{newSets, grammarIn, Rules, InResult, InScratch, addOne, Extended, roundFull, roundTold, Rounded}
+use Rattle.first.specs.Due.{keptOf, Known, Blanked, Alike}
+use Rattle.first.proofs.Known.{Lefts, due-round}
 use Rattle.first.proofs.Walk.{told-over, told-fits, still-ready, placed-ready, placed-product}
 use Rattle.first.proofs.Passing.{Passing, pass-start, pass-next}
 
+never-full : (b : Bool) → roundFull (roundTold b) ≡ true → ⊥
+never-full true e = false≢true e
+never-full false e = false≢true e
+
 -- ---- one production
+
+-- one that is not due
+pub add-none : {u : Setup} (at : ℕ) {k : ℕ} {result scratch : List ℕ} → Ready u k result scratch → Extended u at k (got (newSets u scratch)) false result scratch result scratch
+add-none {u} at {scratch = scratch} ready = record {
+  over = λ n. absurd (false≢true n);
+  done = λ _. record { new = newSets u scratch; made = refl; in-result = front-start (ready .result-store); in-scratch = front-start (ready .scratch-store) };
+  result-beyond = refl;
+  scratch-beyond = refl;
+}
 
 module _ {u : Setup} {at k : ℕ} (left : ℕ) (γ : List Sym) {full : Bool} {result scratch result′ scratch′ : List ℕ} (ready : Ready u k result scratch) (free : Free u at)
     (m : Made u at k (rightSide (room u) k (oldSets u result) γ) full result scratch result′ scratch′) where
@@ -88,29 +105,29 @@ bind-two {B = B} {C = C} (got a) f g h = go (f a)
     go (refused e) = refl
     go (got b) = refl
 
--- the round's sets, from the productions that some words begin with
-abbrev pub roundOver : Setup → ℕ → (old new : State) → ℕ → List ℕ → Answer State
-roundOver u k old new p words = roundFrom (room u) k old new (productionsOf p words)
+-- the round's sets, from the productions that some words begin with and whose left sides are due
+abbrev pub roundOver : Setup → ℕ → List Bool → (old new : State) → ℕ → List ℕ → Answer State
+roundOver u k due old new p words = roundFrom (room u) k old new (keptOf due (productionsOf p words))
 
 -- i productions have been added, and the next begins at `place`
-pub record Adding (u : Setup) (at k : ℕ) (words result₀ scratch₀ : List ℕ) (i place : ℕ) (result scratch : List ℕ) : Type 0 where
+pub record Adding (u : Setup) (at k : ℕ) (words : List ℕ) (due : List Bool) (result₀ scratch₀ : List ℕ) (i place : ℕ) (result scratch : List ℕ) : Type 0 where
   pub pass : Passing u words i place
   pub in-result : InResult u at k (oldSets u result₀) result₀ result
   pub in-scratch : InScratch u k (newSets u scratch) scratch₀ scratch
-  pub to-come : roundOver u k (oldSets u result₀) (newSets u scratch) (u .p - i) (drop place words) ≡ roundOver u k (oldSets u result₀) (newSets u scratch₀) (u .p) words
+  pub to-come : roundOver u k due (oldSets u result₀) (newSets u scratch) (u .p - i) (drop place words) ≡ roundOver u k due (oldSets u result₀) (newSets u scratch₀) (u .p) words
 
-pub adding-start : {u : Setup} (at : ℕ) {k : ℕ} {words result₀ scratch₀ : List ℕ} → Ready u k result₀ scratch₀ → Rules u words → Adding u at k words result₀ scratch₀ 0 0 result₀ scratch₀
-adding-start {u} at ready rules =
+pub adding-start : {u : Setup} (at : ℕ) {k : ℕ} {words : List ℕ} (due : List Bool) {result₀ scratch₀ : List ℕ} → Ready u k result₀ scratch₀ → Rules u words → Adding u at k words due result₀ scratch₀ 0 0 result₀ scratch₀
+adding-start {u} at due ready rules =
     let all : u .p - 0 ≡ u .p = omega arith in
     record { pass = pass-start rules; in-result = front-start (ready .result-store); in-scratch = front-start (ready .scratch-store); to-come = rw all }
 
-module _ {u : Setup} {at k : ℕ} {words result₀ scratch₀ : List ℕ} {i place : ℕ} {result scratch : List ℕ} (adding : Adding u at k words result₀ scratch₀ i place result scratch) where
+module _ {u : Setup} {at k : ℕ} {words : List ℕ} {due : List Bool} {result₀ scratch₀ : List ℕ} {i place : ℕ} {result scratch : List ℕ} (adding : Adding u at k words due result₀ scratch₀ i place result scratch) where
   pub adding-ready : Ready u k result₀ scratch₀ → Ready u k result scratch
   adding-ready ready = still-ready ready (adding .in-result .store) (adding .in-scratch .store)
 
   -- no production more
-  pub adding-end : u .p ≤ i → Extended u at k (roundOver u k (oldSets u result₀) (newSets u scratch₀) (u .p) words) false result₀ scratch₀ result scratch
-  unfolding roundFrom
+  pub adding-end : u .p ≤ i → Extended u at k (roundOver u k due (oldSets u result₀) (newSets u scratch₀) (u .p) words) false result₀ scratch₀ result scratch
+  unfolding roundFrom keptOf
   adding-end h =
       let none : u .p - i ≡ 0 = omega arith in
       record {
@@ -122,23 +139,38 @@ module _ {u : Setup} {at k : ℕ} {words result₀ scratch₀ : List ℕ} {i pla
 
   -- one production more
   module _ (more : i < u .p) (span : Span) (s : SpanAt words place span) (left : ℕ) (same : left ≡ span .left) where
-    next : roundOver u k (oldSets u result₀) (newSets u scratch₀) (u .p) words
-        ≡ (addOne u k (oldSets u result) (newSets u scratch) left (map symbolOf (take (span .to - span .from) (drop (span .from) words)))
-        >>= λ new. roundOver u k (oldSets u result₀) new (u .p - (i + 1)) (drop (span .to) words))
-    unfolding roundFrom
+    -- its right side
+    abbrev γ : List Sym
+    γ = map symbolOf (take (span .to - span .from) (drop (span .from) words))
+
+    -- what it makes of the new sets
+    abbrev added : Answer State
+    added = pick (getD due left false) (addOne u k (oldSets u result) (newSets u scratch) left γ) (got (newSets u scratch))
+
+    next : roundOver u k due (oldSets u result₀) (newSets u scratch₀) (u .p) words ≡ (added >>= λ new. roundOver u k due (oldSets u result₀) new (u .p - (i + 1)) (drop (span .to) words))
+    unfolding roundFrom keptOf
     next =
-        let ps = productionsOf (u .p - (i + 1)) (drop (span .to) words) in
-        let X = oldSets u result₀ in
-        let new = newSets u scratch in
-        let γ = map symbolOf (take (span .to - span .from) (drop (span .from) words)) in
         sym (adding .to-come)
-        ∙ ap (roundFrom (room u) k X new) (span-first (u .n) (u .p) words i place (adding .pass .cursor) more span s)
-        ∙ bind-two (rightSide (room u) k X γ) (λ a. within (room u) (union (setOf new (span .left)) a)) (set new (span .left)) (λ F. roundFrom (room u) k X F ps)
-        ∙ ap₂ (λ (Y : State) (l : ℕ). addOne u k Y new l γ >>= λ F. roundFrom (room u) k X F ps) (sym (adding .in-result .front)) (sym same)
+        ∙ ap (λ (ps : List Production). roundFrom (room u) k X new (keptOf due ps)) (span-first (u .n) (u .p) words i place (adding .pass .cursor) more span s)
+        ∙ by (getD due (span .left) false)
+        ∙ ap₂ (λ (Y : State) (l : ℕ). pick (getD due l false) (addOne u k Y new l γ) (got new) >>= λ F. roundFrom (room u) k X F ps) (sym (adding .in-result .front)) (sym same)
+      where
+        X : State
+        X = oldSets u result₀
+
+        new : State
+        new = newSets u scratch
+
+        ps : List Production
+        ps = keptOf due (productionsOf (u .p - (i + 1)) (drop (span .to) words))
+
+        by : (t : Bool) → roundFrom (room u) k X new (pick t (record { left = span .left; right = γ } ∷ ps) ps) ≡ (pick t (addOne u k X new (span .left) γ) (got new) >>= λ F. roundFrom (room u) k X F ps)
+        by true = bind-two (rightSide (room u) k X γ) (λ a. within (room u) (union (setOf new (span .left)) a)) (set new (span .left)) (λ F. roundFrom (room u) k X F ps)
+        by false = refl
 
     module _ {full : Bool} {result′ scratch′ : List ℕ}
-        (m : Extended u at k (addOne u k (oldSets u result) (newSets u scratch) left (map symbolOf (take (span .to - span .from) (drop (span .from) words)))) full result scratch result′ scratch′) where
-      pub adding-over : full ≡ true → Extended u at k (roundOver u k (oldSets u result₀) (newSets u scratch₀) (u .p) words) true result₀ scratch₀ result′ scratch′
+        (m : Extended u at k added full result scratch result′ scratch′) where
+      pub adding-over : full ≡ true → Extended u at k (roundOver u k due (oldSets u result₀) (newSets u scratch₀) (u .p) words) true result₀ scratch₀ result′ scratch′
       adding-over e =
           record {
             over = λ _. next ∙ rw (m .over e);
@@ -147,7 +179,7 @@ module _ {u : Setup} {at k : ℕ} {words result₀ scratch₀ : List ℕ} {i pla
             scratch-beyond = m .scratch-beyond ∙ adding .in-scratch .beyond;
           }
 
-      pub adding-more : full ≡ false → Adding u at k words result₀ scratch₀ (i + 1) (span .to) result′ scratch′
+      pub adding-more : full ≡ false → Adding u at k words due result₀ scratch₀ (i + 1) (span .to) result′ scratch′
       adding-more e =
           let d = m .done e in
           let new : newSets u scratch′ ≡ d .new = d .in-scratch .front in
@@ -155,79 +187,81 @@ module _ {u : Setup} {at k : ℕ} {words result₀ scratch₀ : List ℕ} {i pla
             pass = pass-next (adding .pass) more span s;
             in-result = front-then (adding .in-result) (rw (← adding .in-result .front) (d .in-result));
             in-scratch = front-then (adding .in-scratch) (rw new (d .in-scratch));
-            to-come = ap (λ (F : State). roundOver u k (oldSets u result₀) F (u .p - (i + 1)) (drop (span .to) words)) new ∙ sym (next ∙ rw (d .made));
+            to-come = ap (λ (F : State). roundOver u k due (oldSets u result₀) F (u .p - (i + 1)) (drop (span .to) words)) new ∙ sym (next ∙ rw (d .made));
           }
 
 -- ---- a round
 
-module _ {u : Setup} {k : ℕ} {result scratch scratch₁ : List ℕ} (ready : Ready u k result scratch)
-    (cleared : Turned k (u .w) (u .b) (u .ssets) (replicate (u .n) [] ++ drop (u .n) (scratchSets u scratch)) scratch scratch₁) where
-  -- the new sets are empty
-  clear-front : InScratch u k (replicate (u .n) []) scratch scratch₁
-  clear-front = front-all (u .n) (u .n) (replicate (u .n) []) (length-replicate (u .n) []) cleared
+-- every left side is in range
+lefts-below : {u : Setup} {words : List ℕ} → Rules u words → Lefts (u .n) (productionsOf (u .p) words)
+lefts-below {u} {words} rules = go (productionsOf (u .p) words) (λ p m. rules .ranged .rules m .0)
+  where
+    go : (ps : List Production) → ((p : Production) → List·Memᴰ p ps → p .left < u .n) → Lefts (u .n) ps
+    go [] h = tt
+    go (p ∷ ps) h = (h p (List·Memᴰ·head refl), go ps (λ q m. h q (List·Memᴰ·tail m)))
 
+module _ {u : Setup} {k : ℕ} {words : List ℕ} {due : List Bool} {result scratch scratch₁ : List ℕ} (ready : Ready u k result scratch) (rules : Rules u words) (known : Known u k words due result scratch)
+    (blank : Blanked u k due scratch scratch₁) where
   pub round-ready : Ready u k result scratch₁
-  round-ready = still-ready ready (ready .result-store) (clear-front .store)
+  round-ready = still-ready ready (ready .result-store) (blank .front .store)
 
-  module _ {at : ℕ} (words : List ℕ) {full : Bool} {result₂ scratch₂ : List ℕ}
-      (m : Extended u at k (roundOver u k (oldSets u result) (newSets u scratch₁) (u .p) words) full result scratch₁ result₂ scratch₂) where
-    begun : round (room u) (grammarIn u words) k (oldSets u result) ≡ roundOver u k (oldSets u result) (newSets u scratch₁) (u .p) words
-    unfolding round
-    begun = ap (λ (F : State). roundOver u k (oldSets u result) F (u .p) words) (sym (clear-front .front))
+  -- so many sets
+  sets-long : (ws : List ℕ) → length (newSets u ws) ≡ u .n
+  sets-long ws = length-take-le (u .n) (scratchSets u ws) (omega (arith, length-sets (u .b) (u .ssets) ws, ready .work))
 
+  -- what is due begins empty, and the rest stands there already
+  begun : round (room u) (grammarIn u words) k (oldSets u result) ≡ roundOver u k due (oldSets u result) (newSets u scratch₁) (u .p) words
+  unfolding round
+  begun = sym (due-round (room u) k (oldSets u result) due (u .n) (productionsOf (u .p) words) (replicate (u .n) []) (newSets u scratch₁) (lefts-below rules) (record {
+    long = length-replicate (u .n) [];
+    long′ = sets-long scratch₁;
+    same = λ A h m. blank .empty A h m ∙ sym (setOf-replicate (u .n) A);
+    rest = λ A h m. rw (setOf-replicate (u .n) A) (known .again A h m ∙ ap got (sym (blank .others A h m ∙ known .stands A h m)));
+  }))
+
+  module _ {at : ℕ} {full : Bool} {result₂ scratch₂ : List ℕ} (m : Extended u at k (roundOver u k due (oldSets u result) (newSets u scratch₁) (u .p) words) full result scratch₁ result₂ scratch₂) where
     pub round-over : full ≡ true → Rounded u at k (round (room u) (grammarIn u words) k (oldSets u result)) Full result scratch result₂ scratch₂
     round-over e =
         record {
           over = λ _. begun ∙ m .over e;
           done = λ n. absurd (true≢false n);
           result-beyond = m .result-beyond;
-          scratch-beyond = m .scratch-beyond ∙ clear-front .beyond;
+          scratch-beyond = m .scratch-beyond ∙ blank .front .beyond;
         }
 
     module _ (e : full ≡ false) where
       pub round-made : Ready u k result₂ scratch₂
       round-made = let d = m .done e in still-ready ready (d .in-result .store) (d .in-scratch .store)
 
-      begun-new : round (room u) (grammarIn u words) k (oldSets u result) ≡ got (newSets u scratch₂)
-      begun-new = let d = m .done e in begun ∙ d .made ∙ ap got (sym (d .in-scratch .front))
+      -- the new sets take the place of the old ones
+      module _ {alike : Bool} {result₃ : List ℕ} {same : List Bool} (t : TakenFirst (u .b) (u .rsets) (u .ssets) (u .n) alike scratch₂ result₂ result₃ same) where
+        pub round-done : Rounded u at k (round (room u) (grammarIn u words) k (oldSets u result)) (roundTold alike) result scratch result₃ scratch₂
+        round-done =
+            let d = m .done e in
+            let r = d .in-result .store in
+            let taken = t .step k (u .w) r (d .in-scratch .store) in
+            record {
+              over = λ n. absurd (never-full alike n);
+              done = λ _. record {
+                new = newSets u scratch₂;
+                made = begun ∙ d .made ∙ ap got (sym (d .in-scratch .front));
+                told = ap roundTold (t .told k (u .w) r (d .in-scratch .store) ∙ ap (sameSets (newSets u scratch₂)) (d .in-result .front));
+                in-result = front-then (d .in-result) (front-all (u .n) at (newSets u scratch₂) (sets-long scratch₂) taken);
+                in-scratch = front-then (blank .front) (rw (d .in-scratch .front) (d .in-scratch));
+              };
+              result-beyond = turned-beyond taken ∙ m .result-beyond;
+              scratch-beyond = m .scratch-beyond ∙ blank .front .beyond;
+            }
 
-      scratch-front : InScratch u k (newSets u scratch₂) scratch scratch₂
-      scratch-front = let d = m .done e in front-then clear-front (rw (d .in-scratch .front) (d .in-scratch))
-
-      -- the sets are those before the round, which stand in the result already
-      pub round-same : true ≡ sameSets (newSets u scratch₂) (oldSets u result₂) → Rounded u at k (round (room u) (grammarIn u words) k (oldSets u result)) Same result scratch result₂ scratch₂
-      round-same t =
-          let d = m .done e in
-          let same : newSets u scratch₂ ≡ oldSets u result = sameSets-sound (newSets u scratch₂) (oldSets u result₂) (subst T t tt) ∙ d .in-result .front in
-          record {
-            over = λ n. absurd (false≢true n);
-            done = λ _. record {
-              new = newSets u scratch₂;
-              made = begun-new;
-              told = ap roundTold (t ∙ ap (sameSets (newSets u scratch₂)) (d .in-result .front));
-              in-result = rw same (d .in-result);
-              in-scratch = scratch-front;
-            };
-            result-beyond = m .result-beyond;
-            scratch-beyond = m .scratch-beyond ∙ clear-front .beyond;
-          }
-
-      -- other sets take the place of those
-      pub round-changed : false ≡ sameSets (newSets u scratch₂) (oldSets u result₂) → {result₃ : List ℕ}
-          → Turned k (u .w) (u .b) (u .rsets) (newSets u scratch₂ ++ drop (u .n) (resultSets u result₂)) result₂ result₃
-          → Rounded u at k (round (room u) (grammarIn u words) k (oldSets u result)) Changed result scratch result₃ scratch₂
-      round-changed t taken =
-          let d = m .done e in
-          let count : length (newSets u scratch₂) ≡ u .n = length-take-le (u .n) (scratchSets u scratch₂) (omega (arith, length-sets (u .b) (u .ssets) scratch₂, ready .work)) in
-          record {
-            over = λ n. absurd (false≢true n);
-            done = λ _. record {
-              new = newSets u scratch₂;
-              made = begun-new;
-              told = ap roundTold (t ∙ ap (sameSets (newSets u scratch₂)) (d .in-result .front));
-              in-result = front-then (d .in-result) (front-all (u .n) at (newSets u scratch₂) count taken);
-              in-scratch = scratch-front;
-            };
-            result-beyond = turned-beyond taken ∙ m .result-beyond;
-            scratch-beyond = m .scratch-beyond ∙ clear-front .beyond;
-          }
+        -- what is marked was there before
+        pub round-alike : Alike u same result result₃
+        round-alike = record {
+          kept = λ A h z.
+              let d = m .done e in
+              let r = d .in-result .store in
+              let s = d .in-scratch .store in
+              let there : oldSets u result₃ ≡ newSets u scratch₂ = front-all (u .n) at (newSets u scratch₂) (sets-long scratch₂) (t .step k (u .w) r s) .front in
+              let old : setOf (oldSets u result₂) A ≡ setOf (oldSets u result) A = ap (λ (F : State). setOf F A) (d .in-result .front) in
+              let same : setOf (scratchSets u scratch₂) A ≡ setOf (resultSets u result₂) A = sameSet-sound _ _ (subst T (sym z ∙ t .marked k (u .w) r s A h) tt) in
+              ap (λ (F : State). setOf F A) there ∙ getD-take (u .n) (scratchSets u scratch₂) A [] h ∙ same ∙ sym (getD-take (u .n) (resultSets u result₂) A [] h) ∙ old;
+        }

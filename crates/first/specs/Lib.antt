@@ -1,4 +1,5 @@
 pub mod Codes
 pub mod Steps
 pub mod Rounds
+pub mod Due
 pub mod Levels

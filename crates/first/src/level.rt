@@ -12,6 +12,7 @@ ghost use Rattle.first.specs.Rounds.{Rules, grammarIn};
 ghost use Rattle.first.specs.Levels.{Levelled, LevelsRun};
 use crate::Ending;
 use crate::Setup;
+use crate::due::due_after;
 use crate::round::Round;
 use crate::round::first_round;
 use k_tuple::well::eps;
@@ -30,8 +31,10 @@ pub fn first_level(
 {
     let mut left = u.n + 1;
     let mut done: u64 = 0;
+    let mut due = [true; 128];
+    let mut same = [false; 128];
     while 0 < left {
-        let r = first_round(result, scratch, u, at, k, words);
+        let r = first_round(result, scratch, u, at, k, words, &due, &mut same);
         match r {
             Round::Full => {
                 return Ending::Refused(11);
@@ -40,7 +43,9 @@ pub fn first_level(
                 let rounds = done + 1;
                 return Ending::Settled(rounds);
             }
-            Round::Changed => {}
+            Round::Changed => {
+                due = due_after(words, u, &same);
+            }
         }
         left -= 1;
         done += 1;

@@ -1,6 +1,7 @@
 // FIRST over two lent buffers that are cut into blocks, a set in each. The result begins with the sets of the nonterminals as they stand,
 // the scratch with the new ones of a round; behind those, set n of the scratch is where a join is made.
 
+pub mod due;
 pub mod level;
 pub mod production;
 pub mod right;

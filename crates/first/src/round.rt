@@ -1,11 +1,18 @@
 // A round of FIRST: the product of each production is added to the new set of its left side, and the new sets take the place of the old ones.
 ghost use mathlib.Core.List.{map};
-ghost use Prim.Native.Nat.{_<_};
+ghost use mathlib.Core.Path.{_≡_};
+ghost use mathlib.Core.Bool.{false};
+ghost use Prim.Native.Nat.{_≤_, _<_};
+ghost use lib.ListN.{length};
+ghost use Rattle.cfg.specs.Reading.{pick};
 ghost use Rattle.cfg.specs.Written.{symbolOf, productionsOf};
+ghost use Rattle.k_tuples.specs.Work.{got};
 ghost use Rattle.first_theory.specs.Compute.{roundFrom, round};
 ghost use Rattle.first.specs.Steps.{Ready, Free, Symbols, oldSets, room};
-ghost use Rattle.first.specs.Rounds.{newSets, addOne, Extended, Rules, grammarIn, Rounded};
+ghost use Rattle.first.specs.Rounds.{newSets, addOne, Extended, Rules, grammarIn, roundFull, Rounded};
+ghost use Rattle.first.specs.Due.{keptOf, Known, Alike};
 use crate::Setup;
+use crate::due::clear_due;
 use crate::right::first_of_right_side;
 use cfg::table::span_at;
 use cfg::wide;
@@ -31,7 +38,27 @@ fn add_production(
     is_full(grown)
 }
 
-// Adds the product of each production to the new set of its left side. Says whether a set was too large.
+// The same, if the left side is due.
+fn add_due(
+    result: &mut [u64],
+    scratch: &mut [u64],
+    u: Setup,
+    at: usize,
+    k: u64,
+    left: usize,
+    right: &[u16],
+    due: bool,
+) -> bool
+    requires { ⌜ (Ready u k (now result) (now scratch) × Free u at) × ((left < u .n) × Symbols u (map symbolOf (now right))) ⌝ }
+    ensures { λ r. ⌜ Extended u at k (pick due (addOne u k (oldSets u (now (result .entry))) (newSets u (now (scratch .entry))) left (map symbolOf (now (right .entry)))) (got (newSets u (now (scratch .entry))))) r (now (result .entry)) (now (scratch .entry)) (now (result .exit)) (now (scratch .exit)) ⌝ }
+{
+    if due {
+        return add_production(result, scratch, u, at, k, left, right);
+    }
+    false
+}
+
+// Adds the product of each production whose left side is due to the new set of that. Says whether a set was too large.
 fn add_productions(
     result: &mut [u64],
     scratch: &mut [u64],
@@ -39,9 +66,10 @@ fn add_productions(
     at: usize,
     k: u64,
     words: &[u16],
+    due: &[bool; 128],
 ) -> bool
     requires { ⌜ (Ready u k (now result) (now scratch) × Free u at) × Rules u (now words) ⌝ }
-    ensures { λ r. ⌜ Extended u at k (roundFrom (room u) k (oldSets u (now (result .entry))) (newSets u (now (scratch .entry))) (productionsOf (u .p) (now (words .entry)))) r (now (result .entry)) (now (scratch .entry)) (now (result .exit)) (now (scratch .exit)) ⌝ }
+    ensures { λ r. ⌜ Extended u at k (roundFrom (room u) k (oldSets u (now (result .entry))) (newSets u (now (scratch .entry))) (keptOf (now (due .entry)) (productionsOf (u .p) (now (words .entry))))) r (now (result .entry)) (now (scratch .entry)) (now (result .exit)) (now (scratch .exit)) ⌝ }
 {
     let p = u.p;
     let mut place = 0;
@@ -50,7 +78,9 @@ fn add_productions(
         let span = span_at(words, place);
         let from = span.from;
         let to = span.to;
-        if add_production(result, scratch, u, at, k, wide(span.left), &words[from..to]) {
+        let left = wide(span.left);
+        let wanted = due[left];
+        if add_due(result, scratch, u, at, k, left, &words[from..to], wanted) {
             return true;
         }
         place = to;
@@ -66,7 +96,8 @@ pub enum Round {
     Full,
 }
 
-// One round: all new sets from the old ones, which they then replace. Set at of the result is for the product in hand.
+// One round: all new sets from the old ones, which they then replace. Only those that are due are worked out; those that did not change are marked.
+// Set at of the result is for the product in hand.
 pub fn first_round(
     result: &mut [u64],
     scratch: &mut [u64],
@@ -74,17 +105,19 @@ pub fn first_round(
     at: usize,
     k: u64,
     words: &[u16],
+    due: &[bool; 128],
+    same: &mut [bool],
 ) -> Round
-    requires { ⌜ (Ready u k (now result) (now scratch) × Free u at) × Rules u (now words) ⌝ }
-    ensures { λ r. ⌜ Rounded u at k (round (room u) (grammarIn u (now (words .entry))) k (oldSets u (now (result .entry)))) r (now (result .entry)) (now (scratch .entry)) (now (result .exit)) (now (scratch .exit)) ⌝ }
+    requires { ⌜ ((Ready u k (now result) (now scratch) × Free u at) × Rules u (now words)) × (Known u k (now words) (now due) (now result) (now scratch) × (u .n ≤ length (now same))) ⌝ }
+    ensures rounded { λ r. ⌜ Rounded u at k (round (room u) (grammarIn u (now (words .entry))) k (oldSets u (now (result .entry)))) r (now (result .entry)) (now (scratch .entry)) (now (result .exit)) (now (scratch .exit)) ⌝ }
+    ensures marked { λ r. ⌜ (roundFull r ≡ false → Alike u (now (same .exit)) (now (result .entry)) (now (result .exit))) ⌝ }
 {
-    blocks::clear_first(scratch, u.b, u.ssets, u.n);
-    if add_productions(result, scratch, u, at, k, words) {
+    clear_due(scratch, u, k, due);
+    if add_productions(result, scratch, u, at, k, words, due) {
         return Round::Full;
     }
-    if blocks::same_first(scratch, result, u.b, u.ssets, u.rsets, u.n) {
+    if blocks::take_first(result, scratch, u.b, u.rsets, u.ssets, u.n, same) {
         return Round::Same;
     }
-    blocks::copy_first(result, scratch, u.b, u.rsets, u.ssets, u.n);
     Round::Changed
 }

@@ -11,10 +11,10 @@ use Rattle.cfg.proofs.accept.close_round.Statement.{statement}
 use Rattle.cfg.proofs.accept.close_round.Tie as tie
 
 abbrev Inv-loop : tie.InvT-loop
-Inv-loop words p free closed₀ at₀ i₀ closed at i = Closes free p words (closeRound free (productionsOf p words) closed₀) closed i at
+Inv-loop words p free closed₀ grew₀ at₀ i₀ closed grew at i = Closes free p words (closeRound free (productionsOf p words) closed₀) closed₀ closed grew i at
 
 abbrev μ-loop : tie.MeasureT-loop
-μ-loop words p free closed₀ at₀ i₀ closed at i = p - i
+μ-loop words p free closed₀ grew₀ at₀ i₀ closed grew at i = p - i
 
 loop-holds : tie.Need-loop-holds Inv-loop μ-loop
 loop-holds c = search closes-start
@@ -25,20 +25,20 @@ span-at-requires c κs = (search needs, search head)
 cast-left : tie.Need-cast-left Inv-loop μ-loop
 cast-left c = search needs
 
-mul-all-marked : tie.Need-mul-all-marked Inv-loop μ-loop
-mul-all-marked c = search needs
+mul-is-new : tie.Need-mul-is-new Inv-loop μ-loop
+mul-is-new c = search needs
 
-sub-all-marked : tie.Need-sub-all-marked Inv-loop μ-loop
-sub-all-marked c = search needs
+sub-is-new : tie.Need-sub-is-new Inv-loop μ-loop
+sub-is-new c = search needs
 
-part-all-marked-start : tie.Need-part-all-marked-start Inv-loop μ-loop
-part-all-marked-start c = search needs
+part-is-new-start : tie.Need-part-is-new-start Inv-loop μ-loop
+part-is-new-start c = search needs
 
-part-all-marked-end : tie.Need-part-all-marked-end Inv-loop μ-loop
-part-all-marked-end c = search needs
+part-is-new-end : tie.Need-part-is-new-end Inv-loop μ-loop
+part-is-new-end c = search needs
 
-all-marked-requires : tie.Need-all-marked-requires Inv-loop μ-loop
-all-marked-requires c κs = search span-below
+is-new-requires : tie.Need-is-new-requires Inv-loop μ-loop
+is-new-requires c κs = (search span-below, search span-left)
 
 array-write-closed : tie.Need-array-write-closed Inv-loop μ-loop
 array-write-closed c = search span-left
@@ -53,7 +53,7 @@ loop-again : tie.Need-loop-again Inv-loop μ-loop
 loop-again c = ⊎-elim (λ w. search closes-mark) (λ w. search closes-pass) (c .if1 .came)
 
 returns : tie.Need-returns Inv-loop μ-loop
-returns c = search closes-done
+returns c = (search closes-done, search needs)
 
 pub close-round-spec : {M : Type 1} → statement M
 close-round-spec =
@@ -64,11 +64,11 @@ close-round-spec =
     loop-holds
     span-at-requires
     cast-left
-    mul-all-marked
-    sub-all-marked
-    part-all-marked-start
-    part-all-marked-end
-    all-marked-requires
+    mul-is-new
+    sub-is-new
+    part-is-new-start
+    part-is-new-end
+    is-new-requires
     array-write-closed
     add-i
     loop-less

@@ -1,6 +1,6 @@
 -- `first::round::add_productions` meets its contract. The loop's invariant is `Adding`. Assumes nothing.
 use mathlib.Core.Path.{_≡_, _∙_}
-use Prim.Native.Nat.{_-_}
+use Prim.Native.Nat.{_-_, _≤_, _<_}
 use native.Mathlib.Omega.{arith}
 use lib.ListN.{length}
 use denote.Ref.{now}
@@ -13,10 +13,10 @@ use Rattle.first.proofs.round.add_productions.Statement.{statement}
 use Rattle.first.proofs.round.add_productions.Tie as tie
 
 abbrev Inv-loop : tie.InvT-loop
-Inv-loop result₀ scratch₀ u at k words p place₀ i₀ result scratch place i = Adding u at k words result₀ scratch₀ i place result scratch
+Inv-loop result₀ scratch₀ u at k words due p place₀ i₀ result scratch place i = Adding u at k words due result₀ scratch₀ i place result scratch
 
 abbrev μ-loop : tie.MeasureT-loop
-μ-loop result₀ scratch₀ u at k words p place₀ i₀ result scratch place i = u .p - i
+μ-loop result₀ scratch₀ u at k words due p place₀ i₀ result scratch place i = u .p - i
 
 -- as long as at entry
 result-length : (c : tie.At-loop Inv-loop μ-loop) → length (c .loop .result) ≡ length (now (c .before .before .before .before .args .result))
@@ -26,7 +26,7 @@ scratch-length : (c : tie.At-loop Inv-loop μ-loop) → length (c .loop .scratch
 scratch-length c = front-length (c .loop .inv .in-scratch) (c .before .before .before .before .pre .0 .0 .scratch-store)
 
 loop-holds : tie.Need-loop-holds Inv-loop μ-loop
-loop-holds c = let s = c .before .before .before in adding-start (s .args .at) (s .pre .0 .0) (s .pre .1)
+loop-holds c = let s = c .before .before .before in adding-start (s .args .at) (now (s .args .due)) (s .pre .0 .0) (s .pre .1)
 
 span-at-requires : tie.Need-span-at-requires Inv-loop μ-loop
 span-at-requires c κs = let pass = c .before .loop .inv .pass in (pass .cursor .here, pass-head pass (c .loop-test .taken) (c .before .before .before .before .before .pre .1 .few))
@@ -34,55 +34,63 @@ span-at-requires c κs = let pass = c .before .loop .inv .pass in (pass .cursor 
 wide-requires : tie.Need-wide-requires Inv-loop μ-loop
 wide-requires c κs = search needs
 
-mul-add-production : tie.Need-mul-add-production Inv-loop μ-loop
-mul-add-production c = omega (arith, c .before .before .before .span-at .ensures .from, c .before .before .before .span-at .ensures .to, c .before .before .before .span-at .ensures .inside)
+-- the left side is a nonterminal
+left-below : (c : tie.After-wide Inv-loop μ-loop) → c .wide .result < c .before .before .before .before .before .before .before .args .u .n
+left-below c =
+    let a = c .before .before .before .before .before .before .before .args in
+    let l = c .before .before .before .loop in
+    let span = c .before .span-at in
+    rw (c .wide .ensures) (span-left (a .u .n) (a .u .p) (now (a .words)) (l .i) (l .place) (l .inv .pass .cursor) (c .before .before .loop-test .taken) (span .result) (span .ensures))
 
-sub-add-production : tie.Need-sub-add-production Inv-loop μ-loop
-sub-add-production c = omega (arith, c .before .before .before .span-at .ensures .from, c .before .before .before .span-at .ensures .to, c .before .before .before .span-at .ensures .inside)
+-- its words lie within all
+inside : (c : tie.After-span-at Inv-loop μ-loop) → let span = c .span-at .result in (span .from ≤ span .to) × (span .to ≤ length (now (c .before .before .before .before .before .before .args .words)))
+inside c = let e = c .span-at .ensures in (omega (arith, e .from, e .to, e .inside), omega (arith, e .from, e .to, e .inside))
 
-part-add-production-start : tie.Need-part-add-production-start Inv-loop μ-loop
-part-add-production-start c = omega (arith, c .before .before .before .span-at .ensures .from, c .before .before .before .span-at .ensures .to, c .before .before .before .span-at .ensures .inside)
+element-copy-out-wanted : tie.Need-element-copy-out-wanted Inv-loop μ-loop
+element-copy-out-wanted c = omega (arith, left-below c, c .before .before .before .before .before .before .before .pre .1 .few)
 
-part-add-production-end : tie.Need-part-add-production-end Inv-loop μ-loop
-part-add-production-end c = omega (arith, c .before .before .before .span-at .ensures .from, c .before .before .before .span-at .ensures .to, c .before .before .before .span-at .ensures .inside)
+mul-add-due : tie.Need-mul-add-due Inv-loop μ-loop
+mul-add-due c = omega (arith, inside (c .before .before .before .before))
 
-add-production-requires : tie.Need-add-production-requires Inv-loop μ-loop
-add-production-requires c κs =
-    let l = c .before .before .before .before .before .before .loop in
-    let s = c .before .before .before .before .before .before .before .before .before .before in
-    let a = s .args in
-    let span = c .before .before .before .before .span-at in
-    let more = c .before .before .before .before .before .loop-test .taken in (
-      (adding-ready (l .inv) (s .pre .0 .0), s .pre .0 .1),
-      (
-        rw (c .before .wide .ensures) (span-left (a .u .n) (a .u .p) (now (a .words)) (l .i) (l .place) (l .inv .pass .cursor) more (span .result) (span .ensures)),
-        pass-symbols (l .inv .pass) more (span .result) (span .ensures),
-      ),
-    )
+sub-add-due : tie.Need-sub-add-due Inv-loop μ-loop
+sub-add-due c = omega (arith, inside (c .before .before .before .before))
+
+part-add-due-start : tie.Need-part-add-due-start Inv-loop μ-loop
+part-add-due-start c = omega (arith, inside (c .before .before .before .before))
+
+part-add-due-end : tie.Need-part-add-due-end Inv-loop μ-loop
+part-add-due-end c = omega (arith, inside (c .before .before .before .before))
+
+add-due-requires : tie.Need-add-due-requires Inv-loop μ-loop
+add-due-requires c κs =
+    let l = c .before .before .before .before .before .before .before .loop in
+    let s = c .before .before .before .before .before .before .before .before .before .before .before in
+    let span = c .before .before .before .before .before .span-at in
+    ((adding-ready (l .inv) (s .pre .0 .0), s .pre .0 .1), (left-below (c .before .before .before .before), pass-symbols (l .inv .pass) (c .before .before .before .before .before .before .loop-test .taken) (span .result) (span .ensures)))
 
 same-length : tie.Need-same-length Inv-loop μ-loop
-same-length c = c .before .before .before .before .before .add-production .kept .0 ∙ result-length (c .before .before .before .before .before .before .before .before .before .before .before .before)
+same-length c = c .before .before .before .before .before .add-due .kept .0 ∙ result-length (c .before .before .before .before .before .before .before .before .before .before .before .before .before)
 
 same-length-2 : tie.Need-same-length-2 Inv-loop μ-loop
-same-length-2 c = c .before .before .before .before .before .add-production .kept .1 .0 ∙ scratch-length (c .before .before .before .before .before .before .before .before .before .before .before .before)
+same-length-2 c = c .before .before .before .before .before .add-due .kept .1 .0 ∙ scratch-length (c .before .before .before .before .before .before .before .before .before .before .before .before .before)
 
 returns : tie.Need-returns Inv-loop μ-loop
 returns c =
-    let span = c .before .before .before .before .before .before .before .before .before .before .span-at in
-    let left = c .before .before .before .before .before .before .before .wide in
-    adding-over (c .before .before .before .before .before .before .before .before .before .before .before .before .loop .inv) (c .before .before .before .before .before .before .before .before .before .before .before .loop-test .taken) (span .result) (span .ensures) (left .result) (left .ensures) (c .before .before .before .before .before .add-production .ensures) (c .if1 .taken)
+    let span = c .before .before .before .before .before .before .before .before .before .before .before .span-at in
+    let left = c .before .before .before .before .before .before .before .before .before .before .wide in
+    adding-over (c .before .before .before .before .before .before .before .before .before .before .before .before .before .loop .inv) (c .before .before .before .before .before .before .before .before .before .before .before .before .loop-test .taken) (span .result) (span .ensures) (left .result) (left .ensures) (c .before .before .before .before .before .add-due .ensures) (c .if1 .taken)
 
 add-i : tie.Need-add-i Inv-loop μ-loop
-add-i c = omega (arith, c .before .before .before .before .before .before .before .before .before .before .before .before .before .before .before .before .pre .1 .short)
+add-i c = omega (arith, c .before .before .before .before .before .before .before .before .before .before .before .before .before .before .before .before .before .pre .1 .short)
 
 loop-less : tie.Need-loop-less Inv-loop μ-loop
 loop-less c = omega arith
 
 loop-again : tie.Need-loop-again Inv-loop μ-loop
 loop-again c =
-    let span = c .before .before .before .before .before .before .before .before .before .before .span-at in
-    let left = c .before .before .before .before .before .before .before .wide in
-    adding-more (c .before .before .before .before .before .before .before .before .before .before .before .before .loop .inv) (c .before .before .before .before .before .before .before .before .before .before .before .loop-test .taken) (span .result) (span .ensures) (left .result) (left .ensures) (c .before .before .before .before .before .add-production .ensures) (c .if1 .left)
+    let span = c .before .before .before .before .before .before .before .before .before .before .before .span-at in
+    let left = c .before .before .before .before .before .before .before .before .before .before .wide in
+    adding-more (c .before .before .before .before .before .before .before .before .before .before .before .before .before .loop .inv) (c .before .before .before .before .before .before .before .before .before .before .before .before .loop-test .taken) (span .result) (span .ensures) (left .result) (left .ensures) (c .before .before .before .before .before .add-due .ensures) (c .if1 .left)
 
 same-length-3 : tie.Need-same-length-3 Inv-loop μ-loop
 same-length-3 c = result-length (c .before)
@@ -102,11 +110,12 @@ add-productions-spec =
     loop-holds
     span-at-requires
     wide-requires
-    mul-add-production
-    sub-add-production
-    part-add-production-start
-    part-add-production-end
-    add-production-requires
+    element-copy-out-wanted
+    mul-add-due
+    sub-add-due
+    part-add-due-start
+    part-add-due-end
+    add-due-requires
     same-length
     same-length-2
     returns
