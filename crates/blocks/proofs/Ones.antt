@@ -2,21 +2,20 @@
 use mathlib.Core.Path.{_≡_, refl, sym, ap, ap₂, _∙_}
 use mathlib.Core.Bool.{true, false}
 use borrow.Author.Tests.{ltb-true}
-use mathlib.Core.List.{List, [], map, List·Memᴰ·not-nil as not-nil}
+use mathlib.Core.List.{List, map}
 use Prim.Native.Nat.{ℕ, _+_, _≤_, _<_}
 use native.Mathlib.Omega.{arith}
 use lib.ListN.{length, length-map}
 use Rattle.k_tuple.specs.Strings.{Str}
 use Rattle.k_tuple.specs.Packed.{packed}
-use Rattle.k_tuple.specs.declared.Terminals.{Terminals}
-use Rattle.k_tuples.specs.Sets.{union, unfinished, joins, joinSets}
-use Rattle.k_tuples.specs.Members.{openOf, addAll, pairsOf}
-use Rattle.k_tuples.specs.Words.{numberIn, encode, decode, roomOf, IsSet, Grew, Numbered, grown, filled, isFull}
+use Rattle.k_tuples.specs.Sets.{union, unfinished, joins}
+use Rattle.k_tuples.specs.Members.{addAll, pairsOf}
+use Rattle.k_tuples.specs.Words.{numberIn, encode, decode, roomOf, IsSet, Grew, Numbered, isFull}
 use Rattle.k_tuples.specs.Held.{setWords, Holds, Became}
 use Rattle.k_tuples.specs.declared.set.Grown.{Grown}
-use Rattle.k_tuples.proofs.Held.{holds-number, holds-decode, as-any, any-open, any-decode, any-set, has-fit, numbered, united, joined-into, joined-over, union-held, joins-held, became-number, filled-number, kept-became}
+use Rattle.k_tuples.proofs.Held.{holds-number, holds-decode, as-any, any-open, any-decode, any-set, has-fit, numbered, united, joined-into, union-held, joins-held, became-number, kept-became}
 use Rattle.k_tuples.proofs.Filling.{full-grown}
-use Rattle.k_tuples.proofs.Unfinished.{union-done, union-apart, unfinished-few, joins-done}
+use Rattle.k_tuples.proofs.Unfinished.{union-done, union-apart, unfinished-few, joins-done, joins-closed}
 
 -- the number of a set that is held is true
 pub is-numbered : {k w : ℕ} {a : List Str} {ws : List ℕ} → Holds k w a ws → Numbered k ws
@@ -26,35 +25,31 @@ is-numbered {k} h = holds-number h ∙ sym (any-open (as-any h) k)
 is-done : {k w u : ℕ} {x : List Str} {xs : List ℕ} → Holds k w x xs → u ≡ numberIn xs → u ≡ 0 → unfinished k x ≡ 0
 is-done g told none = sym (holds-number g) ∙ sym told ∙ none
 
-module _ {k w u : ℕ} {a x : List Str} {ws xs exit : List ℕ} {r : Grown} (h : Holds k w a ws) (g : Holds k w x xs) (told : u ≡ numberIn xs) (none : u ≡ 0) where
+module _ {k w : ℕ} {a x : List Str} {ws xs exit : List ℕ} {r : Grown} (h : Holds k w a ws) (g : Holds k w x xs) where
   -- `union_into`, where the other set has nothing unfinished
-  pub united-kept : Grew ws exit (addAll (decode xs) (decode ws)) r → Became k w a (union a x) (length ws) exit r
-  united-kept grew =
+  pub united-kept : {u : ℕ} → u ≡ numberIn xs → u ≡ 0 → Grew ws exit (addAll (decode xs) (decode ws)) r → Became k w a (union a x) (length ws) exit r
+  united-kept told none grew =
       let size : length (addAll (decode xs) (decode ws)) ≡ length (union a x) = ap length (union-held h g) ∙ length-map (union a x) (packed w) in
       kept-became (united h g grew) (omega (arith, h .room)) refl
       (λ room. became-number grew (rw size room) ∙ holds-number h ∙ sym (union-done k a x (is-done g told none)))
 
-  module _ {y : List Str} {ys : List ℕ} (some : 1 ≤ k) (short : k ≤ 10) (second : Holds k w y ys) where
-    -- `join_into`
-    pub added-kept : Grew ws exit (addAll (pairsOf k (decode xs) (decode ys)) (decode ws)) r → Became k w a (union a (joins k x y)) (length ws) exit r
-    added-kept grew =
+  -- `join_into`, where the join has nothing unfinished
+  module _ {y : List Str} {ys : List ℕ} (some : 1 ≤ k) (short : k ≤ 10) (second : Holds k w y ys) (grew : Grew ws exit (addAll (pairsOf k (decode xs) (decode ys)) (decode ws)) r) where
+    added-kept : unfinished k (joins k x y) ≡ 0 → Became k w a (union a (joins k x y)) (length ws) exit r
+    added-kept done =
         let new = union a (joins k x y) in
         let is : addAll (pairsOf k (decode xs) (decode ys)) (decode ws) ≡ map (packed w) new =
         ap (addAll (pairsOf k (decode xs) (decode ys))) (holds-decode h) ∙ joins-held a some short (h .sorted) (h .fit) g second in
-        let done : unfinished k (joins k x y) ≡ 0 = ap (unfinished k) (joins-done k x y (is-done g told none)) ∙ (is-done g told none) in
         kept-became (joined-into some short g second h grew) (omega (arith, h .room)) refl
         (λ room. became-number grew (rw (is, length-map new (packed w)) room) ∙ holds-number h ∙ sym (union-done k a (joins k x y) done))
 
-    -- `join_sets_over`
-    pub joined-kept : r ≡ grown (roomOf (length ws)) 0 (length (addAll (pairsOf k (decode xs) (decode ys)) [])) → exit ≡ filled 0 (length ws) (addAll (pairsOf k (decode xs) (decode ys)) [])
-        → Became k w [] (joinSets k x y) (length ws) exit r
-    unfolding joinSets unfinished
-    joined-kept e f =
-        let new = union [] (joins k x y) in
-        let is : addAll (pairsOf k (decode xs) (decode ys)) [] ≡ map (packed w) new = joins-held [] some short tt (λ z m. absurd (not-nil m)) g second in
-        let done : unfinished k (joins k x y) ≡ 0 = ap (unfinished k) (joins-done k x y (is-done g told none)) ∙ (is-done g told none) in
-        kept-became (joined-over some short h g second e f) (omega (arith, h .room)) refl
-        (λ room. filled-number 0 (length ws) _ f (rw (is, length-map new (packed w)) room) ∙ sym (union-done k [] (joins k x y) done))
+    -- because the first set has not
+    pub first-kept : {u : ℕ} → u ≡ numberIn xs → u ≡ 0 → Became k w a (union a (joins k x y)) (length ws) exit r
+    first-kept told none = let done = is-done g told none in added-kept (ap (unfinished k) (joins-done k x y done) ∙ done)
+
+    -- because the second has not
+    pub second-kept : {u : ℕ} → u ≡ numberIn ys → u ≡ 0 → Became k w a (union a (joins k x y)) (length ws) exit r
+    second-kept told none = added-kept (joins-closed k x y some (is-done second told none))
 
 -- `union_into` of a set that has nothing in common with the first: the numbers are added
 module _ {k w : ℕ} {a x : List Str} {ws xs mid : List ℕ} {g : Grown} (h : Holds k w a ws) (o : Holds k w x xs) (grew : Grew ws mid (addAll (decode xs) (decode ws)) g) (fits : isFull g ≡ false) where

@@ -1,6 +1,6 @@
 -- The sets of one level at the next: their members are the same, and their numbers of unfinished members are made anew, one set after the other.
 -- Assumes nothing.
-use mathlib.Core.Path.{_≡_, refl, sym, ap, ap₂, _∙_, subst}
+use mathlib.Core.Path.{_≡_, sym, ap, ap₂, _∙_}
 use mathlib.Core.List.{List, [], _∷_, _++_}
 use Prim.Native.Nat.{ℕ, zero, suc, _+_, _-_, _*_, _≤_, _<_}
 use native.Mathlib.Nat.{le-trans}
@@ -12,8 +12,8 @@ use Rattle.k_tuple.specs.Strings.{Str}
 use Rattle.k_tuples.specs.States.{State, setOf}
 use Rattle.k_tuples.specs.Members.{openOf}
 use Rattle.k_tuples.specs.Words.{encode, decode}
-use Rattle.k_tuples.specs.Held.{setWords, Fits, Holds, HoldsAny}
-use Rattle.k_tuples.specs.Blocks.{Kept, AllKept, Stored, store, setsIn, IsStored, partAt, putAt}
+use Rattle.k_tuples.specs.Held.{setWords, Fits, Holds}
+use Rattle.k_tuples.specs.Blocks.{Kept, AllKept, Stored, store, setsIn, partAt, putAt}
 use Rattle.k_tuples.proofs.Held.{set-length, holds-words, as-any, any-decode, any-open}
 use Rattle.k_tuples.proofs.Blocks.{kept-at, store-append, store-front, stored-rest, stored-length, length-sets}
 use Rattle.blocks.specs.Stores.{Turned}

@@ -4,7 +4,7 @@ use mathlib.Core.Bool.{false, _&&_}
 use mathlib.Core.Logic.{inl, inr, ⊎-elim}
 use mathlib.Core.List.{List, [], _∷_, _++_, List·Memᴰ·not-nil as not-nil, List·Memᴰ·eq-of-singleton}
 use Prim.Native.Nat.{ℕ, zero, suc, _+_, _-_, _*_, _≤_, _<_}
-use native.Mathlib.Nat.{le-trans, le-of-suc-le-suc, not-suc-le-zero}
+use native.Mathlib.Nat.{le-of-suc-le-suc, not-suc-le-zero}
 use native.Mathlib.Numerals.{add-one}
 use native.Mathlib.Omega.{arith}
 use borrow.Author.Tests.{ltb-false}
@@ -17,7 +17,7 @@ use Rattle.k_tuples.specs.Sets.{Sorted, sameSet, union, joins, joinSets}
 use Rattle.k_tuples.specs.States.{State, setOf, sameSets}
 use Rattle.k_tuples.specs.Words.{roomOf, grown, isFull}
 use Rattle.k_tuples.specs.Held.{Fits, Holds, Became}
-use Rattle.k_tuples.specs.Blocks.{AllKept, Stored, setsIn, IsStored, partAt, putAt}
+use Rattle.k_tuples.specs.Blocks.{Stored, setsIn, IsStored, partAt, putAt}
 use Rattle.k_tuples.specs.declared.set.Grown.{Grown}
 use Rattle.k_tuples.proofs.Sets.{mem-union, union-sorted, union-only}
 use Rattle.k_tuples.proofs.Held.{holds-words, set-length}

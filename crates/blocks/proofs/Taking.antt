@@ -1,15 +1,14 @@
 -- The first sets of words become those of others, one after the other, each with a mark whether it was that before. Assumes nothing.
-use mathlib.Core.Path.{_≡_, refl, sym, ap, ap₂, _∙_, subst}
+use mathlib.Core.Path.{_≡_, refl, sym, ap, _∙_, subst}
 use mathlib.Core.Bool.{Bool, true, false, _&&_}
 use mathlib.Core.List.{List, [], _++_}
 use Prim.Native.Nat.{ℕ, _+_, _-_, _≤_, _<_}
 use native.Mathlib.Nat.{add-zero}
 use native.Mathlib.Omega.{arith}
-use lib.Dec.{T, ltb}
-use borrow.Author.Tests.{ltb-true, ltb-false}
+use lib.Dec.{T}
+use borrow.Author.Count.{below-more}
 use lib.ListN.{length, getD, set, take, drop, length-set}
 use lib.Seq.{length-take-le, getD-append-add, getD-drop, getD-set-same, getD-set-other, set-getD}
-use Rattle.k_tuple.specs.Strings.{Str}
 use Rattle.k_tuples.specs.Sets.{sameSet}
 use Rattle.k_tuples.specs.States.{State, setOf, sameSets}
 use Rattle.k_tuples.specs.Blocks.{setsIn, IsStored}
@@ -17,7 +16,7 @@ use Rattle.k_tuples.proofs.Lists.{set-next}
 use Rattle.k_tuples.proofs.Sets.{sameSet-sound}
 use Rattle.k_tuples.proofs.Blocks.{length-sets, in-sets}
 use Rattle.blocks.specs.Stores.{Turned, CopiedBlock, TakenBlock, TakenFirst}
-use Rattle.blocks.proofs.Stores.{as-turned, turned-store, turned-sets, turned-then, turned-length, same-next}
+use Rattle.blocks.proofs.Stores.{as-turned, turned-store, turned-sets, turned-then, same-next}
 
 -- ---- one set
 
@@ -110,13 +109,7 @@ module _ (b m l n : ℕ) (vs ws₀ : List ℕ) (marks₀ : List Bool) where
             t .told
             ∙ ap (λ (x : Bool). all && x) (same-next n i There Here h (omega (arith, length-sets b l vs)) (omega (arith, length-sets b m ws₀)) ∙ ap (λ (x : Bool). x && from (i + 1)) (sym (alike f₀ g₀)))
             ∙ and-swap all r (from (i + 1)) ∙ ap (λ (x : Bool). x && from (i + 1)) (sym e);
-        marked = λ k w f g j z. by f g j z (ltb j i) refl;
+        marked = λ k w f g. below-more _ i
+            (λ j z. getD-set-other marks i j r false (λ (q : j ≡ i). omega arith) ∙ t .marked k w f g j z)
+            (getD-set-same marks i r false (omega (arith, t .long)) ∙ alike f g);
       }
-        where
-          by : {k w : ℕ} → IsStored k w b m ws₀ → IsStored k w b l vs → (j : ℕ) → j < i + 1 → (x : Bool) → ltb j i ≡ x → getD (set marks i r) j false ≡ sameSet (setOf There j) (setOf Here j)
-          by {k} {w} f g j z true x =
-              let low : j < i = ltb-true j i x in
-              getD-set-other marks i j r false (λ (q : j ≡ i). absurd (omega arith)) ∙ t .marked k w f g j low
-          by f g j z false x =
-              let last : j ≡ i = omega (arith, ltb-false j i x) in
-              rw (last, getD-set-same marks i r false (omega (arith, t .long))) (alike f g)

@@ -3,7 +3,7 @@ use mathlib.Core.Path.{_≡_, refl}
 use mathlib.Core.List.{List, _∷_, map, List·Memᴰ, List·Memᴰ·head, List·Memᴰ·tail}
 use Prim.Native.Nat.{ℕ, _+_, _-_, _≤_, _<_}
 use native.Mathlib.Omega.{arith}
-use lib.ListN.{getD, take, drop}
+use lib.ListN.{length, getD, take, drop}
 use Rattle.cfg.specs.declared.table.Span.{Span}
 use Rattle.cfg.specs.Grammar.{Sym, Production}
 use Rattle.cfg.specs.Written.{symbolOf, productionsOf}
@@ -14,6 +14,10 @@ use Rattle.first.specs.declared.Setup.{Setup}
 use Rattle.first.specs.Steps.{sizes, Symbols}
 use Rattle.first.specs.Rounds.{grammarIn, Rules}
 use Rattle.first.proofs.Codes.{range-same}
+
+-- the symbols of a production lie within the words
+pub span-within : {words : List ℕ} {place : ℕ} {span : Span} → SpanAt words place span → (span .from ≤ span .to) × (span .to ≤ length words)
+span-within e = (omega (arith, e .from, e .to, e .inside), omega (arith, e .from, e .to, e .inside))
 
 -- i productions are passed, and the next begins at `place`; those still to come are in range
 pub record Passing (u : Setup) (words : List ℕ) (i place : ℕ) : Type 0 where

@@ -1,14 +1,13 @@
 -- One turn of the loops over what is due: the left sides are marked, and the new sets emptied. Assumes nothing.
 use mathlib.Core.Path.{_≡_, refl, sym, ap, _∙_}
-use mathlib.Core.Bool.{Bool, true, false, not, true≢false}
+use mathlib.Core.Bool.{Bool, true, false, true≢false}
 use mathlib.Core.List.{List, []}
 use Prim.Native.Nat.{ℕ, _+_, _-_, _≤_, _<_}
 use native.Mathlib.Omega.{arith}
-use borrow.Author.Tests.{not-true, not-false, ltb-true, ltb-false}
-use lib.Dec.{ltb}
+use borrow.Author.Count.{below-more}
 use lib.ListN.{length, getD, set, drop}
 use lib.Seq.{length-take-le, getD-set-same, getD-set-other}
-use Rattle.k_tuples.specs.States.{State, setOf}
+use Rattle.k_tuples.specs.States.{setOf}
 use Rattle.k_tuples.specs.Blocks.{IsStored}
 use Rattle.k_tuples.proofs.Blocks.{length-sets}
 use Rattle.blocks.specs.Stores.{Emptied}
@@ -64,20 +63,16 @@ module _ {u : Setup} {k : ℕ} {due : List Bool} {scratch₀ : List ℕ} {i : �
   module _ (h : i < u .n) where
     -- one that is not due
     pub blank-pass : getD due i false ≡ false → {scratch′ : List ℕ} → scratch′ ≡ scratch → Blanking u k due scratch₀ (i + 1) scratch′
-    blank-pass e q = rw q (record { below = omega arith; front = w .front; empty = λ A z m. by A z m (ltb A i) refl; others = w .others })
-      where
-        by : (A : ℕ) → A < i + 1 → Marked due A → (t : Bool) → ltb A i ≡ t → setOf (newSets u scratch) A ≡ []
-        by A z m true t = w .empty A (ltb-true A i t) m
-        by A z m false t =
-            let last : A ≡ i = omega (arith, ltb-false A i t) in
-            absurd (true≢false (sym m ∙ ap (λ (B : ℕ). getD due B false) last ∙ e))
+    blank-pass e q = rw q (record { below = omega arith; front = w .front; empty = below-more _ i (w .empty) (λ m. absurd (true≢false (sym m ∙ e))); others = w .others })
 
     -- one that is due
     pub blank-more : u .n < u .ssets → Marked due i → {scratch′ : List ℕ} → Emptied (u .b) (u .ssets) i scratch scratch′ → {scratch″ : List ℕ} → scratch″ ≡ scratch′ → Blanking u k due scratch₀ (i + 1) scratch″
     blank-more room e {scratch′} c q = rw q (record {
       below = omega arith;
       front = front-then (w .front) (rw (emptied .front) emptied);
-      empty = λ A z m. rw (emptied .front) (by A z m (ltb A i) refl);
+      empty = rw (emptied .front) (below-more _ i
+          (λ A z m. getD-set-other (newSets u scratch) i A [] [] (λ (q : A ≡ i). omega arith) ∙ w .empty A z m)
+          (λ m. getD-set-same (newSets u scratch) i [] [] (omega (arith, long))));
       others = λ A z m. rw (emptied .front) (getD-set-other (newSets u scratch) i A [] [] (λ q. true≢false (sym e ∙ ap (λ (B : ℕ). getD due B false) (sym q) ∙ m)) ∙ w .others A z m);
     })
       where
@@ -86,11 +81,3 @@ module _ {u : Setup} {k : ℕ} {due : List Bool} {scratch₀ : List ℕ} {i : �
 
         long : length (newSets u scratch) ≡ u .n
         long = length-take-le (u .n) (scratchSets u scratch) (omega (arith, length-sets (u .b) (u .ssets) scratch, room))
-
-        by : (A : ℕ) → A < i + 1 → Marked due A → (t : Bool) → ltb A i ≡ t → setOf (set (newSets u scratch) i []) A ≡ []
-        by A z m true t =
-            let low = ltb-true A i t in
-            getD-set-other (newSets u scratch) i A [] [] (λ (q : A ≡ i). absurd (omega arith)) ∙ w .empty A low m
-        by A z m false t =
-            let last : A ≡ i = omega (arith, ltb-false A i t) in
-            rw last (getD-set-same (newSets u scratch) i [] [] (omega (arith, long)))

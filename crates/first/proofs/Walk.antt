@@ -10,7 +10,7 @@ use lib.Dec.{ltb}
 use lib.ListN.{length, set, take, drop, replicate, drop-of-length-le}
 use lib.Seq.{getD-set-same, getD-take, set-set, set-getD, take-set-le, drop-drop}
 use Rattle.k_tuple.specs.Strings.{Str, eps, ones}
-use Rattle.k_tuples.specs.Sets.{Sorted, joinSets, allComplete}
+use Rattle.k_tuples.specs.Sets.{joinSets, allComplete}
 use Rattle.k_tuples.specs.States.{State, setOf}
 use Rattle.k_tuples.specs.Words.{grown, isFull}
 use Rattle.k_tuples.proofs.Words.{words-room}

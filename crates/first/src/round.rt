@@ -1,4 +1,5 @@
-// A round of FIRST: the product of each production is added to the new set of its left side, and the new sets take the place of the old ones.
+// A round of FIRST: the product of each production is added to the new set of its left side, and the new sets take the place of the old ones. A left
+// side that is not due has its new set already, and its productions are passed over.
 ghost use mathlib.Core.List.{map};
 ghost use mathlib.Core.Path.{_≡_};
 ghost use mathlib.Core.Bool.{false};

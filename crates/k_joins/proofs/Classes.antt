@@ -1,18 +1,17 @@
 -- What members of a class give: a string that is not complete takes as much of another as it is cut to. Assumes nothing.
-use mathlib.Core.Path.{_≡_, refl, sym, ap, ap₂, _∙_, subst}
+use mathlib.Core.Path.{_≡_, refl, sym, ap, _∙_, subst}
 use mathlib.Core.Bool.{Bool, true, false, cond}
-use mathlib.Core.List.{List, [], _∷_, _++_, map, List·Memᴰ·head as here, List·Memᴰ·tail as there, List·Memᴰ·not-nil as not-nil}
-use mathlib.Core.Logic.{_⊎_, inl, inr, ⊎-elim}
-use Prim.Native.Nat.{ℕ, zero, suc, _-_, _<_, _≤_}
+use mathlib.Core.List.{List, [], _∷_, _++_, List·Memᴰ·head as here, List·Memᴰ·tail as there, List·Memᴰ·not-nil as not-nil}
+use mathlib.Core.Logic.{inr, ⊎-elim}
+use Prim.Native.Nat.{ℕ, zero, suc, _-_, _<_}
 use native.Mathlib.Omega.{arith}
 use lib.ListN.{length, take}
-use lib.Seq.{take-all}
 use Rattle.k_tuple.specs.Strings.{Str, eps, slots, terminals, isEps, lengthOf, complete, cut, join}
-use Rattle.k_tuples.specs.Sets.{_∈_, _⊆_, Sorted, union, joins, joinSets, Joined, stays, meets}
-use Rattle.k_tuples.proofs.Sorted.{cases, same-members}
-use Rattle.k_tuples.proofs.Sets.{mem-union, union-sorted, union-append, union-idle, joins-append, joins-cases, mem-joinSets}
+use Rattle.k_tuples.specs.Sets.{_∈_, Sorted}
+use Rattle.k_tuples.proofs.Sorted.{cases}
+use Rattle.k_tuples.proofs.Sets.{mem-union, union-sorted}
 use Rattle.k_tuples.proofs.Joins.{incomplete-short}
-use Rattle.k_joins.specs.Runs.{follow, run, cuts, cutSet}
+use Rattle.k_joins.specs.Runs.{follow, cuts, cutSet}
 use Rattle.k_joins.proofs.Order.{NoEps}
 
 pub not-both : {t : Bool} → t ≡ true → t ≡ false → ⊥

@@ -4,21 +4,20 @@ use mathlib.Core.Path.{_≡_, refl, sym, ap, ap₂, _∙_, subst}
 use mathlib.Core.Bool.{Bool, true, false, cond, _||_}
 use mathlib.Core.List.{List, [], _∷_, _++_, map, List·Memᴰ·head as here, List·Memᴰ·tail as there, List·Memᴰ·not-nil as not-nil, List·Memᴰ·append-cases as append-cases, Memᴰ·append-left, Memᴰ·append-right, Memᴰ·cast, Memᴰ·map, Memᴰ·of-map, List·Memᴰ·eq-of-singleton as only}
 use mathlib.Core.Logic.{_⊎_, inl, inr, ⊎-elim}
-use Prim.Native.Nat.{ℕ, zero, suc, _+_, _-_, _*_, _≤_, _<_}
+use Prim.Native.Nat.{ℕ, zero, suc, _-_, _≤_, _<_}
 use native.Mathlib.Omega.{arith}
-use native.Mathlib.Nat.{le-trans, min-le-left}
-use borrow.Author.Tests.{le-leb}
-use lib.ListN.{length, take, length-take}
+use native.Mathlib.Nat.{min-le-left}
+use lib.ListN.{length, length-take}
 use lib.Seq.{take-all}
-use Rattle.k_tuple.specs.Strings.{Str, eps, slots, good, terminals, isEps, lengthOf, wellFormed, complete, cut, join, pack}
-use Rattle.k_tuple.specs.Packed.{words, packed, number-of, reads, joined, epsIn, completeIn}
+use Rattle.k_tuple.specs.Strings.{Str, eps, slots, isEps, lengthOf, wellFormed, complete, cut, join, pack}
+use Rattle.k_tuple.specs.Packed.{words, packed, reads, joined, epsIn, completeIn}
 use Rattle.k_tuple.specs.declared.Terminals.{Terminals}
 use Rattle.k_tuple.proofs.Closed.{reads-packed, cut-well, join-well}
 use Rattle.k_tuple.proofs.Words.{number-words}
 use Rattle.k_tuples.specs.Sets.{_∈_, _⊆_, Sorted, member, joins, joinSets, Joined, stays, meets}
 use Rattle.k_tuples.specs.Members.{rising, addAll, pairsOf}
 use Rattle.k_tuples.proofs.Tests.{passed, holds}
-use Rattle.k_tuples.proofs.Rising.{rising-addAll, addAll-append}
+use Rattle.k_tuples.proofs.Rising.{addAll-append}
 use Rattle.k_tuples.proofs.Sorted.{cases}
 use Rattle.k_tuples.proofs.Sets.{mem-member, mem-union, joins-cases, mem-joinSets}
 use Rattle.k_tuples.proofs.Joins.{join-whole, join-eps}

@@ -1,12 +1,12 @@
 -- The loops of src/runs.rt: rows and runs that are written, parts of a set that are gathered, and a set that takes a part of another at a time. Assumes nothing.
 use mathlib.Core.Path.{_≡_, refl, sym, ap, ap₂, _∙_, subst}
-use mathlib.Core.Bool.{Bool, true, false, cond, _&&_}
+use mathlib.Core.Bool.{Bool, true, false, cond}
 use mathlib.Core.List.{List, [], _∷_, _++_, map, append-assoc, append-nil}
-use Prim.Native.Nat.{ℕ, zero, suc, _+_, _-_, _*_, _%_, _^_, _≤_, _<_}
-use native.Mathlib.Nat.{le-trans, mod-eq-of-lt, min-eq-right, min-le-left}
+use Prim.Native.Nat.{ℕ, zero, _+_, _-_, _*_, _%_, _^_, _≤_, _<_}
+use native.Mathlib.Nat.{mod-eq-of-lt, min-eq-right, min-le-left}
 use native.Mathlib.Omega.{arith}
 use native.Mathlib.Decide.{decLe}
-use lib.ListN.{length, getD, take, drop, set, replicate, length-append, length-drop, length-map, length-take, length-replicate, drop-of-length-le, take-append-drop}
+use lib.ListN.{length, take, drop, set, replicate, length-append, length-drop, length-map, length-take, length-replicate, drop-of-length-le, take-append-drop}
 use lib.Seq.{take-add, drop-append-le, length-take-le}
 use Rattle.k_tuple.specs.declared.Terminals.{Terminals}
 use Rattle.k_tuple.specs.Strings.{number, fields, countField, widthField, slotsField}
@@ -17,14 +17,13 @@ use Rattle.k_tuple.proofs.Round.{stored-lt}
 use Rattle.k_tuples.specs.declared.set.Grown.{Grown}
 use Rattle.k_tuples.specs.declared.set.Grown.the-variants.{Same, Full}
 use Rattle.k_tuples.specs.Members.{before, rising, adding, addAll}
-use Rattle.k_tuples.specs.Words.{countWord, numberIn, countIn, memberAt, encode, decode, roomOf, IsSet, Grew, grownFrom, isFull}
+use Rattle.k_tuples.specs.Words.{countWord, numberIn, memberAt, encode, decode, roomOf, IsSet, Grew, grownFrom, isFull}
 use Rattle.k_tuples.specs.Cores.{withGap}
 use Rattle.k_tuples.proofs.Rising.{both, rising-addAll, length-addAll, addAll-append}
 use Rattle.k_tuples.proofs.Words.{words-room, length-decode, rest-member, set-some, set-within, decode-encode, number-encode, length-encode, encode-is-set, encode-none, zeros-set}
 use Rattle.k_tuples.proofs.Inserting.{grown-full, grew-idle, gap-encode, gap-number}
-use Rattle.k_tuples.proofs.Filling.{Way, Filling, grown-fits, grew-over, grew-fits, grew-length, grew-decode, grew-number, grew-set}
+use Rattle.k_tuples.proofs.Filling.{Way, Filling, grown-fits, grew-over, grew-length, grew-decode, grew-number, grew-set}
 use Rattle.k_joins.specs.Parts.{between, cutOf, CutAdded, KeptStep, cutsOf, keepOf, keepsOf, followsOf, runOf, meetOf, meetsOf, leftOf, leftsOf, InClass, ClassTold, ClassEnd, Follows, AllFollow, AllPairs, Coded, BlankCut, BlankRun, RunPart, Gathered, ChunkEnd}
-use Rattle.k_joins.specs.declared.runs.Next.{Next}
 use Rattle.k_joins.proofs.Adding.{addAll-most}
 
 -- ---- parts of a set
@@ -136,14 +135,13 @@ module _ {W : Way} {src entry ws exit : List ℕ} {goal : List Terminals} {n old
 
 -- ---- one member behind the others
 
-pub pushed : {n : ℕ} {ws gap exit : List ℕ} (x : Terminals) → Coded ws → n ≡ length (decode ws) → gap ≡ withGap (2 * n + 1) (2 * n + 1) x ws → 2 * n + 3 ≤ length ws → n < 4294967295 → exit ≡ set gap 0 (countWord (numberIn gap) (n + 1))
+pub pushed : {n : ℕ} {ws gap exit : List ℕ} (x : Terminals) → Coded ws → n ≡ length (decode ws) → gap ≡ withGap (2 * n + 1) (2 * n + 1) x ws → 2 * n + 3 ≤ length ws → n < 4294967295 → exit ≡ set gap 0 (countWord 0 (n + 1))
     → exit ≡ encode 0 (length ws) (decode ws ++ x ∷ [])
 pushed {n} {ws} {gap} {exit} x c e g some few h =
     let ms = decode ws in
     let none : ms ≡ ms ++ [] = sym (append-nil ms) in
     let size : n ≡ length (ms ++ []) = e ∙ ap length none in
-    let zero : numberIn gap ≡ 0 = ap numberIn g ∙ gap-number n (2 * n + 1) x ws (omega arith) ∙ ap numberIn (c .is) ∙ number-encode 0 (length ws) ms (omega arith) in
-    h ∙ ap (λ (u : ℕ). set gap 0 (countWord u (n + 1))) zero
+    h
     ∙ ap₂ (λ (l : List ℕ) (m : ℕ). set l 0 (countWord 0 (m + 1))) (g ∙ ap (withGap (2 * n + 1) (2 * n + 1) x) (c .is ∙ ap (encode 0 (length ws)) none)) size
     ∙ gap-encode 0 (length ws) ms [] x (2 * n + 1) (2 * n + 1) (omega arith) (omega arith)
 

@@ -9,7 +9,6 @@ use crate::pairs::join_plain;
 use crate::runs::join_large;
 use k_tuples::set::Grown;
 use k_tuples::set::clear;
-use k_tuples::set::clear_set;
 use k_tuples::set::count;
 use k_tuples::set::number;
 use k_tuples::set::or_zeros;
@@ -52,17 +51,6 @@ pub fn join_sets(out: &mut [u64], xs: &[u64], ys: &[u64], k: u64) -> Grown
     ensures words { λ _. ⌜ now (out .exit) ≡ filled 0 (length (now (out .entry))) (addAll (pairsOf k (decode (now (xs .entry))) (decode (now (ys .entry)))) []) ⌝ }
 {
     clear(out);
-    let g = join_into(out, xs, ys, k);
-    or_zeros(out, g)
-}
-
-// The same, where out holds a set: only the words that it used are set to 0 first.
-pub fn join_sets_over(out: &mut [u64], xs: &[u64], ys: &[u64], k: u64) -> Grown
-    requires { ⌜ IsSet (now out) × (IsSet (now xs) × (IsSet (now ys) × (AllJoinable k (now xs) (now ys) × Numbered k (now xs)))) ⌝ }
-    ensures answer { λ r. ⌜ r ≡ grown (roomOf (length (now (out .entry)))) 0 (length (addAll (pairsOf k (decode (now (xs .entry))) (decode (now (ys .entry)))) [])) ⌝ }
-    ensures words { λ _. ⌜ now (out .exit) ≡ filled 0 (length (now (out .entry))) (addAll (pairsOf k (decode (now (xs .entry))) (decode (now (ys .entry)))) []) ⌝ }
-{
-    clear_set(out);
     let g = join_into(out, xs, ys, k);
     or_zeros(out, g)
 }

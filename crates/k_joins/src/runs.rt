@@ -33,7 +33,7 @@ use k_tuples::set::is_full;
 use k_tuples::set::member;
 use k_tuples::set::place_near;
 use k_tuples::set::put_in;
-use k_tuples::set::set_count;
+use k_tuples::set::start_count;
 use k_tuples::set::union_into;
 
 // How many members of the second set are cut at a time, and how many members a run has at most.
@@ -62,7 +62,7 @@ fn push(r: &mut [u64], n: usize, x: Terminals)
     ensures { λ _. ⌜ now (r .exit) ≡ encode 0 (length (now (r .entry))) (decode (now (r .entry)) ++ x ∷ []) ⌝ }
 {
     put_in(r, 2 * n + 1, 2 * n + 1, x);
-    set_count(r, n + 1);
+    start_count(r, n + 1);
 }
 
 // Writes the members i to e of xs, which have l slots, behind the n members in r, each followed by y.

@@ -23,7 +23,7 @@ use Rattle.k_tuples.specs.Merging.{sideOf, written, Begins, Merged, Pass
 use Rattle.k_tuples.proofs.Rising.{rank-le, length-addAll}
 use Rattle.k_tuples.proofs.Words.{room-words, length-flat, flat-append, length-decode, getD-decode, set-room, set-some, set-past, next-member, none-left}
 use Rattle.k_tuples.proofs.Inserting.{grown-full, grown-added, grew-idle}
-use Rattle.k_tuples.proofs.Filling.{Filling, kept-in, gives-kept, fill-start, fill-more, fill-full, fill-end}
+use Rattle.k_tuples.proofs.Filling.{Filling, kept-in, gives-kept, fill-more, fill-full, fill-end}
 use Rattle.k_tuples.proofs.Uniting.{Level, level-swap, level-rises, is-below, is-above, is-same, drop-rises, take-rises, add-none, first-below, first-above, first-same, add-behind, add-after, add-idle, length-most, _then_, last-below, last-above, last-same, none-below, none-above, none-same, none-in-none, none-passed, has-same, both-below, both-above, both-past, both-with-none, both-passed}
 
 -- ---- `compare`

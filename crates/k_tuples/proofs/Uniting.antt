@@ -1,21 +1,20 @@
 -- The union of two rising lists by their first members and by their last, and what they have in common by their first. Assumes nothing.
-use mathlib.Core.Path.{_≡_, refl, sym, ap, ap₂, _∙_, subst}
-use mathlib.Core.Bool.{Bool, true, false, cond, not, _&&_}
-use mathlib.Core.List.{List, [], _∷_, _++_, append-nil}
+use mathlib.Core.Path.{_≡_, refl, sym, ap, _∙_, subst}
+use mathlib.Core.Bool.{Bool, true, false, cond, _&&_}
+use mathlib.Core.List.{List, [], _∷_, _++_}
 use mathlib.Core.Logic.{_⊎_, inl, inr, ⊎-elim}
-use Prim.Native.Nat.{ℕ, zero, suc, _+_, _-_, _≤_, _<_}
+use Prim.Native.Nat.{ℕ, zero, suc, _+_, _≤_, _<_}
 use native.Mathlib.Omega.{arith}
 use borrow.Author.Tests.{ltb-true, ltb-false, lt-ltb, ne-eqb, eq-eqb}
-use lib.Dec.{ltb, eqb}
-use lib.ListN.{length, getD, take, drop, length-append, length-drop}
+use lib.Dec.{ltb}
+use lib.ListN.{length, getD, take, drop}
 use Rattle.k_tuple.specs.declared.Terminals.{Terminals}
 use Rattle.k_tuple.specs.Packed.{number-of, lessOf}
 use Rattle.k_tuple.proofs.Ordered.{ltb-like}
-use Rattle.k_tuples.specs.declared.merge.Side.{Side}
 use Rattle.k_tuples.specs.declared.merge.Side.the-variants.{Below, Same, Above}
-use Rattle.k_tuples.specs.Members.{before, rising, rank, adding, addAll, sameMember, hasOf, keptOf, bothOf, noneOf}
+use Rattle.k_tuples.specs.Members.{before, rising, rank, adding, addAll, sameMember, hasOf, bothOf, noneOf}
 use Rattle.k_tuples.specs.Merging.{pickSide, sideOf, Passed}
-use Rattle.k_tuples.proofs.Rising.{both, less-trans, rising-addAll, length-adding, length-addAll, addAll-append}
+use Rattle.k_tuples.proofs.Rising.{both, less-trans, rising-addAll, length-addAll, addAll-append}
 
 -- ---- where two members stand
 

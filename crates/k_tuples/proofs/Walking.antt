@@ -3,13 +3,14 @@
 use mathlib.Core.Path.{_≡_, refl, sym, ap, ap₂, _∙_}
 use mathlib.Core.Bool.{Bool, true, false, cond, not, _&&_}
 use mathlib.Core.List.{List, [], _∷_, _++_}
-use Prim.Native.Nat.{ℕ, zero, suc, _+_, _*_, _≤_, _<_}
+use Prim.Native.Nat.{ℕ, zero, suc, _+_, _-_, _*_, _≤_, _<_}
 use native.Mathlib.Omega.{arith}
 use lib.ListN.{length, drop}
 use Rattle.k_tuple.specs.declared.Terminals.{Terminals}
 use Rattle.k_tuple.specs.Packed.{reads, completeIn}
 use Rattle.k_tuples.specs.Members.{sameMember, sameMembers, hasOf, noneOf, openOf, joinsOf, pairsOf}
 use Rattle.k_tuples.specs.Words.{memberAt, decode}
+use Rattle.k_tuples.specs.Cores.{Class}
 use Rattle.k_tuples.proofs.Rising.{same-length}
 use Rattle.k_tuples.proofs.Words.{next-member, none-left}
 
@@ -117,14 +118,21 @@ pub record Tallying (k : ℕ) (src : List ℕ) (n so-far i : ℕ) : Type 0 where
 pub tally-start : {src : List ℕ} {n : ℕ} (k : ℕ) → n ≡ length (decode src) → Tallying k src n 0 0
 tally-start k e = record { counted = e; all = omega arith; few = omega arith }
 
-pub tally-more : {k n m i d : ℕ} {src : List ℕ} {x : Terminals} → Tallying k src n m i → i < n → x ≡ memberAt src (2 * i + 1) → d ≡ openOf k (x ∷ []) → Tallying k src n (m + d) (i + 1)
-tally-more {k} {i = i} {src = src} {x = x} t turn at e =
-    let rest = drop (i + 1) (decode src) in
-    record {
-      counted = t .counted;
-      all = omega (arith, t .all, ap (openOf k) (next-member src (t .counted) turn at), open-more k x rest);
-      few = omega (arith, t .few, open-few k (x ∷ []));
-    }
+-- past a member that is complete
+pub tally-skip : {k n m i : ℕ} {t : Bool} {src : List ℕ} {x : Terminals} → Tallying k src n m i → i < n → x ≡ memberAt src (2 * i + 1) → t ≡ completeIn k (reads x) → t ≡ true → Tallying k src n m (i + 1)
+tally-skip {k} {i = i} {src = src} {x = x} t turn at told e = record {
+  counted = t .counted;
+  all = omega (arith, t .all, ap (openOf k) (next-member src (t .counted) turn at), open-more k x (drop (i + 1) (decode src)), one-complete k x told e);
+  few = omega (arith, t .few);
+}
+
+-- past members that are unfinished as the first of them is
+pub tally-class : {k n m i j : ℕ} {t : Bool} {src : List ℕ} {x : Terminals} → Tallying k src n m i → x ≡ memberAt src (2 * i + 1) → t ≡ completeIn k (reads x) → t ≡ false → Class src i j → Tallying k src n (m + (j - i)) j
+tally-class {k} t at told e c = record {
+  counted = t .counted;
+  all = omega (arith, t .all, c .like k (ap (λ (y : Terminals). completeIn k (reads y)) (sym at) ∙ sym told ∙ e));
+  few = omega (arith, t .few, c .some);
+}
 
 -- where none of the members that are left is open
 pub tally-stop : {k n m i : ℕ} {src : List ℕ} → Tallying k src n m i → openOf k (drop i (decode src)) ≡ 0 → m ≡ openOf k (decode src)

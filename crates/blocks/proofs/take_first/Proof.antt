@@ -7,7 +7,6 @@ use native.Mathlib.Omega.{arith}
 use borrow.Author.Tests.{not-true, not-false}
 use Rattle.blocks.proofs.Stores.{turned-store, turned-length}
 use Rattle.blocks.proofs.Taking.{Taking, taking-start, taking-end, taking-more}
-use borrow.Author.Needs.{needs}
 use Rattle.blocks.proofs.take_first.Statement.{statement}
 use Rattle.blocks.proofs.take_first.Tie as tie
 

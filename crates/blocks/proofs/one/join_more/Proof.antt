@@ -1,7 +1,7 @@
 -- `blocks::one::join_more` meets its contract. Assumes nothing.
 use native.Mathlib.Omega.{arith}
 use Rattle.k_tuples.proofs.Held.{holds-set, can-join, joined-into, can-finish, finished-became}
-use Rattle.blocks.proofs.Ones.{is-numbered, added-kept}
+use Rattle.blocks.proofs.Ones.{is-numbered, first-kept, second-kept}
 use borrow.Author.Needs.{needs}
 use Rattle.blocks.proofs.one.join_more.Statement.{statement}
 use Rattle.blocks.proofs.one.join_more.Tie as tie
@@ -17,26 +17,33 @@ same-length c = search needs
 
 returns : tie.Need-returns
 returns c =
-    let n = c .before .number .ensures in
-    let g = c .before .before .before .before .join-into .ensures in
     let p = c .before .before .before .before .before .before .before .before .before .pre in
-    record { step = λ w a u v h x y. added-kept h x n (c .if1 .taken) (p .some) (p .short) y g }
+    record { step = λ w a u v h x y. first-kept h x (p .some) (p .short) y (c .before .before .before .before .join-into .ensures) (c .before .number .ensures) (c .if1 .taken) }
 
-finish-requires : tie.Need-finish-requires
-finish-requires c κs =
-    let g = c .before .before .before .before .before .join-into .ensures in
-    let p = c .before .before .before .before .before .before .before .before .before .before .pre in
-    can-finish (joined-into (p .some) (p .short) (p .first) (p .second) (p .held) g)
+number-requires-2 : tie.Need-number-requires-2
+number-requires-2 c κs = let p = c .before .before .before .before .before .before .before .before .before .pre in omega (arith, p .second .room)
 
 same-length-2 : tie.Need-same-length-2
 same-length-2 c = search needs
 
 returns-2 : tie.Need-returns-2
 returns-2 c =
+    let p = c .before .before .before .before .before .before .before .before .before .before .before .pre in
+    record { step = λ w a u v h x y. second-kept h x (p .some) (p .short) y (c .before .before .before .before .before .before .join-into .ensures) (c .before .number2 .ensures) (c .if2 .taken) }
+
+finish-requires : tie.Need-finish-requires
+finish-requires c κs =
+    let p = c .before .before .before .before .before .before .before .before .before .before .before .before .pre in
+    can-finish (joined-into (p .some) (p .short) (p .first) (p .second) (p .held) (c .before .before .before .before .before .before .before .join-into .ensures))
+
+same-length-3 : tie.Need-same-length-3
+same-length-3 c = search needs
+
+returns-3 : tie.Need-returns-3
+returns-3 c =
     let f = c .before .before .finish .ensures in
-    let g = c .before .before .before .before .before .before .before .before .join-into .ensures in
-    let p = c .before .before .before .before .before .before .before .before .before .before .before .before .before .pre in
-    record { step = λ w a u v h x y. finished-became (joined-into (p .some) (p .short) x y h g) (omega (arith, h .room)) (f .0) (f .1) }
+    let p = c .before .before .before .before .before .before .before .before .before .before .before .before .before .before .before .pre in
+    record { step = λ w a u v h x y. finished-became (joined-into (p .some) (p .short) x y h (c .before .before .before .before .before .before .before .before .before .before .join-into .ensures)) (omega (arith, h .room)) (f .0) (f .1) }
 
 pub join-more-spec : {M : Type 1} → statement M
 join-more-spec =
@@ -46,6 +53,9 @@ join-more-spec =
     number-requires
     same-length
     returns
-    finish-requires
+    number-requires-2
     same-length-2
-    returns-2)
+    returns-2
+    finish-requires
+    same-length-3
+    returns-3)

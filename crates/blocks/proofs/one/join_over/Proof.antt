@@ -1,51 +1,32 @@
 -- `blocks::one::join_over` meets its contract. Assumes nothing.
-use native.Mathlib.Omega.{arith}
-use Rattle.k_tuples.proofs.Held.{holds-set, can-join, joined-over, can-finish, finished-became}
-use Rattle.blocks.proofs.Ones.{is-numbered, joined-kept}
+use mathlib.Core.Path.{_≡_, ap, _∙_}
+use mathlib.Core.List.{[]}
+use lib.ListN.{length, length-replicate}
+use denote.Ref.{now}
+use Rattle.k_tuples.specs.Sets.{joinSets}
+use Rattle.k_tuples.proofs.Held.{holds-set, cleared}
 use borrow.Author.Needs.{needs}
 use Rattle.blocks.proofs.one.join_over.Statement.{statement}
 use Rattle.blocks.proofs.one.join_over.Tie as tie
 
-join-sets-over-requires : tie.Need-join-sets-over-requires
-join-sets-over-requires c κs = let p = c .before .before .before .before .pre in (holds-set (p .held), (holds-set (p .first), (holds-set (p .second), (can-join (p .short) (p .first) (p .second), is-numbered (p .first)))))
+clear-set-requires : tie.Need-clear-set-requires
+clear-set-requires c κs = holds-set (c .before .before .before .before .pre .held)
 
-number-requires : tie.Need-number-requires
-number-requires c κs = let p = c .before .before .before .before .before .before .before .pre in omega (arith, p .first .room)
+join-more-requires : tie.Need-join-more-requires
+join-more-requires c κs =
+    let p = c .before .before .before .before .before .before .before .before .pre in
+    record { width = p .width; a = []; x = p .x; y = p .y; some = p .some; short = p .short; held = cleared (p .held) (c .before .before .before .clear-set .ensures); first = p .first; second = p .second }
 
 same-length : tie.Need-same-length
 same-length c = search needs
 
 returns : tie.Need-returns
+unfolding joinSets
 returns c =
-    let n = c .before .number .ensures in
-    let g = c .before .before .before .before .join-sets-over .ensures in
-    let p = c .before .before .before .before .before .before .before .before .before .pre in
-    record { step = λ w a u v h x y. joined-kept h x n (c .if1 .taken) (p .some) (p .short) y (g .0) (g .1) }
-
-finish-requires : tie.Need-finish-requires
-finish-requires c κs =
-    let g = c .before .before .before .before .before .join-sets-over .ensures in
-    let p = c .before .before .before .before .before .before .before .before .before .before .pre in
-    can-finish (joined-over (p .some) (p .short) (p .held) (p .first) (p .second) (g .0) (g .1))
-
-same-length-2 : tie.Need-same-length-2
-same-length-2 c = search needs
-
-returns-2 : tie.Need-returns-2
-returns-2 c =
-    let f = c .before .before .finish .ensures in
-    let g = c .before .before .before .before .before .before .before .before .join-sets-over .ensures in
-    let p = c .before .before .before .before .before .before .before .before .before .before .before .before .before .pre in
-    record { step = λ w a u v h x y. finished-became (joined-over (p .some) (p .short) h x y (g .0) (g .1)) (omega (arith, h .room)) (f .0) (f .1) }
+    let e = c .before .before .before .before .before .before .clear-set .ensures in
+    let ws = now (c .before .before .before .before .before .before .before .before .before .before .before .args .set) in
+    let long : length (c .before .before .before .before .before .before .clear-set .last .0) ≡ length ws = ap length e ∙ length-replicate (length ws) 0 in
+    record { step = λ w a u v h x y. rw long at (c .before .before .join-more .ensures .step w [] u v (cleared h e) x y) }
 
 pub join-over-spec : {M : Type 1} → statement M
-join-over-spec =
-    tie.close
-    (tie.spec
-    join-sets-over-requires
-    number-requires
-    same-length
-    returns
-    finish-requires
-    same-length-2
-    returns-2)
+join-over-spec = tie.close (tie.spec clear-set-requires join-more-requires same-length returns)

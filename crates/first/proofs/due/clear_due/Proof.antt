@@ -5,7 +5,6 @@ use native.Mathlib.Omega.{arith}
 use denote.Ref.{now}
 use Rattle.blocks.proofs.Fronts.{front-length}
 use Rattle.first.proofs.Sweeping.{Blanking, blank-start, blank-end, blank-pass, blank-more}
-use borrow.Author.Needs.{needs}
 use Rattle.first.proofs.due.clear_due.Statement.{statement}
 use Rattle.first.proofs.due.clear_due.Tie as tie
 
@@ -24,7 +23,7 @@ element-copy-out-if1 c = omega (arith, c .before .before .before .pre .1 .1)
 clear-block-requires : tie.Need-clear-block-requires Inv-loop μ-loop
 clear-block-requires c κs =
     let s = c .before .before .before .before .before .before in
-    (record { k = s .args .k; width = s .args .u .w; store = c .before .before .before .before .loop .inv .front .store}, omega (arith, s .pre .1 .0, c .before .before .before .loop-test .taken))
+    (record { k = s .args .k; width = s .args .u .w; store = c .before .before .before .before .loop .inv .front .store }, omega (arith, s .pre .1 .0, c .before .before .before .loop-test .taken))
 
 add-i : tie.Need-add-i Inv-loop μ-loop
 add-i c = omega (arith, c .before .before .before .before .before .pre .1 .1)

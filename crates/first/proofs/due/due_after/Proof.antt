@@ -1,18 +1,18 @@
 -- `first::due::due_after` meets its contract. The loop's invariant is `Sweeping`. Assumes nothing.
-use mathlib.Core.Path.{_≡_, sym, ap, _∙_}
+use mathlib.Core.Path.{sym, ap, _∙_}
 use mathlib.Core.Bool.{Bool, true}
-use mathlib.Core.List.{List, map}
+use mathlib.Core.List.{map}
 use mathlib.Core.Logic.{⊎-elim}
-use Prim.Native.Nat.{ℕ, _-_, _≤_}
+use Prim.Native.Nat.{ℕ, _-_}
 use native.Mathlib.Omega.{arith}
 use borrow.Author.Tests.{not-true, not-false}
-use lib.ListN.{length, set, take, drop}
+use lib.ListN.{set, take, drop}
 use denote.Ref.{now}
 use Rattle.cfg.specs.Reading.{pick}
 use Rattle.cfg.specs.Written.{symbolOf}
 use Rattle.cfg.proofs.Cursor.{span-left, span-below}
 use Rattle.cfg.proofs.Tests.{below-wider}
-use Rattle.first.proofs.Passing.{pass-head}
+use Rattle.first.proofs.Passing.{span-within, pass-head}
 use Rattle.first.proofs.Sweeping.{Sweeping, sweep-start, sweep-end, sweep-more}
 use borrow.Author.Needs.{needs}
 use Rattle.first.proofs.due.due_after.Statement.{statement}
@@ -33,21 +33,17 @@ span-at-requires c κs = let pass = c .before .before .loop .inv .pass in (pass 
 wide-requires : tie.Need-wide-requires Inv-loop μ-loop
 wide-requires c κs = search needs
 
--- its words lie within all
-inside : (c : tie.After-span-at Inv-loop μ-loop) → let span = c .span-at .result in (span .from ≤ span .to) × (span .to ≤ length (now (c .before .before .before .before .before .args .words)))
-inside c = let e = c .span-at .ensures in (omega (arith, e .from, e .to, e .inside), omega (arith, e .from, e .to, e .inside))
-
 mul-all-marked : tie.Need-mul-all-marked Inv-loop μ-loop
-mul-all-marked c = omega (arith, inside (c .before))
+mul-all-marked c = omega (arith, span-within (c .before .span-at .ensures))
 
 sub-all-marked : tie.Need-sub-all-marked Inv-loop μ-loop
-sub-all-marked c = omega (arith, inside (c .before))
+sub-all-marked c = omega (arith, span-within (c .before .span-at .ensures))
 
 part-all-marked-start : tie.Need-part-all-marked-start Inv-loop μ-loop
-part-all-marked-start c = omega (arith, inside (c .before))
+part-all-marked-start c = omega (arith, span-within (c .before .span-at .ensures))
 
 part-all-marked-end : tie.Need-part-all-marked-end Inv-loop μ-loop
-part-all-marked-end c = omega (arith, inside (c .before))
+part-all-marked-end c = omega (arith, span-within (c .before .span-at .ensures))
 
 all-marked-requires : tie.Need-all-marked-requires Inv-loop μ-loop
 all-marked-requires c κs =

@@ -6,7 +6,7 @@ use lib.ListN.{length}
 use denote.Ref.{now}
 use Rattle.blocks.proofs.Stores.{turned-length}
 use Rattle.blocks.proofs.Fronts.{front-length}
-use Rattle.first.proofs.Passing.{pass-head, pass-symbols}
+use Rattle.first.proofs.Passing.{span-within, pass-head, pass-symbols}
 use Rattle.first.proofs.Products.{Producing, producing-start, producing-ready, producing-free, producing-end, producing-over, producing-more}
 use Rattle.first.proofs.production.first_productions.Statement.{statement}
 use Rattle.first.proofs.production.first_productions.Tie as tie
@@ -34,16 +34,16 @@ add-first-of-right-side : tie.Need-add-first-of-right-side Inv-loop μ-loop
 add-first-of-right-side c = omega (arith, c .before .before .before .before .before .before .before .before .pre .1 .few, c .before .before .before .before .before .before .before .before .pre .1 .short, c .before .before .before .loop-test .taken)
 
 mul-first-of-right-side : tie.Need-mul-first-of-right-side Inv-loop μ-loop
-mul-first-of-right-side c = omega (arith, c .before .before .span-at .ensures .from, c .before .before .span-at .ensures .to, c .before .before .span-at .ensures .inside)
+mul-first-of-right-side c = omega (arith, span-within (c .before .before .span-at .ensures))
 
 sub-first-of-right-side : tie.Need-sub-first-of-right-side Inv-loop μ-loop
-sub-first-of-right-side c = omega (arith, c .before .before .span-at .ensures .from, c .before .before .span-at .ensures .to, c .before .before .span-at .ensures .inside)
+sub-first-of-right-side c = omega (arith, span-within (c .before .before .span-at .ensures))
 
 part-first-of-right-side-start : tie.Need-part-first-of-right-side-start Inv-loop μ-loop
-part-first-of-right-side-start c = omega (arith, c .before .before .span-at .ensures .from, c .before .before .span-at .ensures .to, c .before .before .span-at .ensures .inside)
+part-first-of-right-side-start c = omega (arith, span-within (c .before .before .span-at .ensures))
 
 part-first-of-right-side-end : tie.Need-part-first-of-right-side-end Inv-loop μ-loop
-part-first-of-right-side-end c = omega (arith, c .before .before .span-at .ensures .from, c .before .before .span-at .ensures .to, c .before .before .span-at .ensures .inside)
+part-first-of-right-side-end c = omega (arith, span-within (c .before .before .span-at .ensures))
 
 first-of-right-side-requires : tie.Need-first-of-right-side-requires Inv-loop μ-loop
 first-of-right-side-requires c κs =

@@ -6,9 +6,8 @@ use native.Mathlib.Omega.{arith}
 use lib.ListN.{length, take, drop, length-take, length-drop}
 use lib.Seq.{take-all, length-take-le}
 use denote.Ref.{now}
-use Rattle.cfg.specs.Written.{symbolOf}
 use Rattle.first.specs.Codes.{partOf, partLength}
-use Rattle.first.specs.Steps.{PartIn, Symbols}
+use Rattle.first.specs.Steps.{PartIn}
 use Rattle.first.proofs.Codes.{part-in, symbols-from}
 use Rattle.first.proofs.Walk.{placed-ready, parts-made}
 use borrow.Author.Needs.{needs}

@@ -1,12 +1,12 @@
 -- `first::round::add_productions` meets its contract. The loop's invariant is `Adding`. Assumes nothing.
 use mathlib.Core.Path.{_≡_, _∙_}
-use Prim.Native.Nat.{_-_, _≤_, _<_}
+use Prim.Native.Nat.{_-_, _<_}
 use native.Mathlib.Omega.{arith}
 use lib.ListN.{length}
 use denote.Ref.{now}
 use Rattle.blocks.proofs.Fronts.{front-length}
 use Rattle.cfg.proofs.Cursor.{span-left}
-use Rattle.first.proofs.Passing.{pass-head, pass-symbols}
+use Rattle.first.proofs.Passing.{span-within, pass-head, pass-symbols}
 use Rattle.first.proofs.Rounds.{Adding, adding-start, adding-ready, adding-end, adding-over, adding-more}
 use borrow.Author.Needs.{needs}
 use Rattle.first.proofs.round.add_productions.Statement.{statement}
@@ -42,24 +42,20 @@ left-below c =
     let span = c .before .span-at in
     rw (c .wide .ensures) (span-left (a .u .n) (a .u .p) (now (a .words)) (l .i) (l .place) (l .inv .pass .cursor) (c .before .before .loop-test .taken) (span .result) (span .ensures))
 
--- its words lie within all
-inside : (c : tie.After-span-at Inv-loop μ-loop) → let span = c .span-at .result in (span .from ≤ span .to) × (span .to ≤ length (now (c .before .before .before .before .before .before .args .words)))
-inside c = let e = c .span-at .ensures in (omega (arith, e .from, e .to, e .inside), omega (arith, e .from, e .to, e .inside))
-
 element-copy-out-wanted : tie.Need-element-copy-out-wanted Inv-loop μ-loop
 element-copy-out-wanted c = omega (arith, left-below c, c .before .before .before .before .before .before .before .pre .1 .few)
 
 mul-add-due : tie.Need-mul-add-due Inv-loop μ-loop
-mul-add-due c = omega (arith, inside (c .before .before .before .before))
+mul-add-due c = omega (arith, span-within (c .before .before .before .before .span-at .ensures))
 
 sub-add-due : tie.Need-sub-add-due Inv-loop μ-loop
-sub-add-due c = omega (arith, inside (c .before .before .before .before))
+sub-add-due c = omega (arith, span-within (c .before .before .before .before .span-at .ensures))
 
 part-add-due-start : tie.Need-part-add-due-start Inv-loop μ-loop
-part-add-due-start c = omega (arith, inside (c .before .before .before .before))
+part-add-due-start c = omega (arith, span-within (c .before .before .before .before .span-at .ensures))
 
 part-add-due-end : tie.Need-part-add-due-end Inv-loop μ-loop
-part-add-due-end c = omega (arith, inside (c .before .before .before .before))
+part-add-due-end c = omega (arith, span-within (c .before .before .before .before .span-at .ensures))
 
 add-due-requires : tie.Need-add-due-requires Inv-loop μ-loop
 add-due-requires c κs =

@@ -2,7 +2,7 @@
 use denote.Ref.{now}
 use native.Mathlib.Omega.{arith}
 use Rattle.k_tuples.proofs.Words.{length-below}
-use Rattle.k_joins.proofs.Joining.{first-formed, well-here, complete-step, eps-step, long-step, class-here}
+use Rattle.k_joins.proofs.Joining.{well-here, complete-step, eps-step, long-step, class-here}
 use borrow.Author.Needs.{needs}
 use Rattle.k_joins.proofs.runs.join_part.Statement.{statement}
 use Rattle.k_joins.proofs.runs.join_part.Tie as tie

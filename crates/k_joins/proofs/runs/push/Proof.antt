@@ -19,11 +19,11 @@ add-put-in-2 c = search needs
 put-in-requires : tie.Need-put-in-requires
 put-in-requires c κs = search needs
 
-add-set-count : tie.Need-add-set-count
-add-set-count c = search needs
+add-start-count : tie.Need-add-start-count
+add-start-count c = search needs
 
-set-count-requires : tie.Need-set-count-requires
-set-count-requires c κs = search needs
+start-count-requires : tie.Need-start-count-requires
+start-count-requires c κs = search needs
 
 same-length : tie.Need-same-length
 same-length c = search needs
@@ -40,7 +40,7 @@ push-spec =
     mul-put-in-2
     add-put-in-2
     put-in-requires
-    add-set-count
-    set-count-requires
+    add-start-count
+    start-count-requires
     same-length
     returns)

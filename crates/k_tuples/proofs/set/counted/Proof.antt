@@ -1,5 +1,4 @@
 -- `k_tuples::set::counted` meets its contract. Assumes nothing.
-use mathlib.Core.Path.{_∙_}
 use Rattle.k_tuples.specs.Words.{countIn}
 use borrow.Author.Needs.{needs}
 use Rattle.k_tuples.proofs.set.counted.Statement.{statement}

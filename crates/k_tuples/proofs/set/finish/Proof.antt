@@ -1,5 +1,5 @@
 -- `k_tuples::set::finish` meets its contract. Assumes nothing.
-use mathlib.Core.Path.{refl, sym, ap, _∙_}
+use mathlib.Core.Path.{refl, sym, _∙_}
 use borrow.Author.Needs.{needs}
 use Rattle.k_tuples.proofs.set.finish.Statement.{statement}
 use Rattle.k_tuples.proofs.set.finish.Tie as tie

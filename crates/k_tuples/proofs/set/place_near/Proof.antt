@@ -1,5 +1,4 @@
 -- `k_tuples::set::place_near` meets its contract. Assumes nothing.
-use native.Mathlib.Omega.{arith}
 use borrow.Author.Needs.{needs}
 use Rattle.k_tuples.proofs.Inserting.{place-past, place-here, place-end}
 use Rattle.k_tuples.proofs.set.place_near.Statement.{statement}

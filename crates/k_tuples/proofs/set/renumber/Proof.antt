@@ -1,10 +1,9 @@
 -- `k_tuples::set::renumber` meets its contract. Assumes nothing.
-use mathlib.Core.Path.{sym, ap, _∙_}
+use mathlib.Core.Path.{ap, _∙_}
 use Prim.Native.Nat.{ℕ}
 use native.Mathlib.Omega.{arith}
 use lib.ListN.{length, set}
 use denote.Ref.{now}
-use Rattle.k_tuples.specs.Members.{openOf}
 use Rattle.k_tuples.specs.Words.{countWord, countIn, encode, decode}
 use Rattle.k_tuples.proofs.Words.{set-some, length-below, renumbered}
 use Rattle.k_tuples.proofs.Walking.{open-few}

@@ -1,6 +1,6 @@
 -- `k_tuples::set::single` meets its contract. Assumes nothing.
 use mathlib.Core.Path.{ap}
-use mathlib.Core.List.{List, [], _∷_}
+use mathlib.Core.List.{[], _∷_}
 use Prim.Native.Nat.{ℕ}
 use native.Mathlib.Omega.{arith}
 use Rattle.k_tuples.specs.Words.{flat, countWord, encode}

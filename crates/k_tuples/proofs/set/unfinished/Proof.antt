@@ -1,10 +1,9 @@
 -- `k_tuples::set::unfinished` meets its contract. Assumes nothing.
-use mathlib.Core.List.{[], _∷_}
 use Prim.Native.Nat.{_-_}
-use denote.Ref.{now}
-use Rattle.k_tuples.proofs.Words.{length-below, well-formed-at}
-use Rattle.k_tuples.proofs.Walking.{Tallying, open-few, tally-start, tally-more, tally-stop, tally-done}
-use Rattle.k_tuples.proofs.Held.{some-set, some-well, long-from}
+use Rattle.k_tuples.proofs.Words.{well-formed-at}
+use Rattle.k_tuples.proofs.Walking.{Tallying, tally-start, tally-skip, tally-class, tally-stop, tally-done}
+use Rattle.k_tuples.proofs.Held.{some-set, some-well}
+use Rattle.k_tuples.proofs.Classes.{long-from}
 use native.Mathlib.Omega.{arith}
 use borrow.Author.Needs.{needs}
 use Rattle.k_tuples.proofs.set.unfinished.Statement.{statement}
@@ -16,20 +15,13 @@ Inv-loop k set n open₀ i₀ «open» i = Tallying k set n «open» i
 abbrev μ-loop : tie.MeasureT-loop
 μ-loop k set n open₀ i₀ «open» i = n - i
 
--- no more were counted than were read, and those are fewer than half a word counts
-add-open : tie.Need-add-open Inv-loop μ-loop
-add-open c =
-    let l = c .before .before .before .before .before in
-    let a = l .before .before .before .args in
-    omega (arith, l .loop .inv .few, l .loop .inv .counted, length-below (now (a .set)), c .open-one .ensures, open-few (a .k) (c .before .before .before .member .result ∷ []))
-
 -- from a long member on none is open
 returns : tie.Need-returns Inv-loop μ-loop
 returns c =
     let m = c .before .before in
     let l = m .before .before in
     let s = l .before .before .before in
-    tally-stop (l .loop .inv) (long-from (s .pre) (s .args .k) (omega (arith, l .loop .inv .counted)) (m .member .ensures) (c .before .is-long .ensures) (c .if1 .taken))
+    tally-stop (l .loop .inv) (long-from (s .pre) (omega (arith, l .loop .inv .counted)) (m .member .ensures) (s .args .k) (c .before .is-long .ensures) (c .if1 .taken))
 
 pub unfinished-spec : {M : Type 1} → statement M
 unfinished-spec =
@@ -42,9 +34,13 @@ unfinished-spec =
     (λ c κs. (search some-set, search needs))  -- member-requires
     (λ c κs. search needs)  -- is-long-requires
     returns
-    (λ c κs. search (well-formed-at, some-well))  -- open-one-requires
-    add-open
+    (λ c κs. search (well-formed-at, some-well))  -- is-complete-requires
     (λ c. search needs)  -- add-i
     (λ c. search needs)  -- loop-less
-    (λ c. search tally-more)  -- loop-again
+    (λ c. search tally-skip)  -- loop-again
+    (λ c κs. search needs)  -- class-end-requires
+    (λ c. search needs)  -- sub-open
+    (λ c. search needs)  -- add-open
+    (λ c. search needs)  -- loop-less-2
+    (λ c. search tally-class)  -- loop-again-2
     (λ c. search tally-done))  -- returns-2
