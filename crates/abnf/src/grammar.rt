@@ -12,14 +12,14 @@ use abnf_tables::tables::{Built, Counts, is_among, wide};
 use abnf_tables::words::{index, rank_of};
 
 // The table stands in so many bytes of the lent ones; or a refusal, and its place.
-#[derive(Drop)]
+#[derive(Clone, Copy)]
 pub enum TableAnswer {
     Written(usize),
     Refused { number: u16, place: u16 },
 }
 
 // How many numbers are in use, and how many productions they hold.
-#[derive(Drop)]
+#[derive(Clone, Copy)]
 struct Put {
     used: u16,
     count: u16,

@@ -1,5 +1,7 @@
 // A text of rules as lines: its table and what the table's numbers stand for, or its refusal and where in the text that is. Thin: the table and the
 // parts of the text are the library's, and proved there; here is text.
+#![tactic(auto)]
+
 ghost use Rattle.lines.specs.Waits.{Waits};
 
 use crate::numbers::put_numbers;

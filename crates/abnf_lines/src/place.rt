@@ -6,7 +6,7 @@ use abnf_tables::words::{byte_at, index};
 use lines::{put, put_number, put_text};
 
 // A line's number, and the place of its first byte.
-#[derive(Drop)]
+#[derive(Clone, Copy)]
 struct Spot {
     line: usize,
     start: usize,

@@ -1,4 +1,6 @@
 // The table of a text of rules from standard input, and what its numbers stand for.
+#![tactic(auto)]
+
 use libc::STDIN_FILENO;
 
 // It reads no more than 65,536 bytes: a text of more than 32,768 is refused by then.

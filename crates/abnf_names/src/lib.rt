@@ -1,4 +1,5 @@
 // The way back from a grammar's numbers: the part of the text that names a nonterminal or a terminal.
+#![tactic(auto)]
 
 ghost use Rattle.std.specs.Prelude.{◌≡◌, List, true, ℕ, ◌+◌, ◌≤◌, ◌<◌, length, get_or, take, drop, eqb};
 ghost use Rattle.abnf_tables.specs.Words.{word_at};
@@ -10,7 +11,7 @@ use abnf_tables::tables::{Built, Counts};
 use abnf_tables::words::{head_of, index, rank_of};
 
 // The bytes of a text from `start` up to `end`: none where they are the same.
-#[derive(Drop)]
+#[derive(Clone, Copy)]
 pub struct TextPart {
     pub start: usize,
     pub end: usize,

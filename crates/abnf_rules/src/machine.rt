@@ -16,7 +16,7 @@ use abnf_tables::words::{
 };
 
 // What was read last, and so what may follow. A number is the place where a name begins, or a literal's quote.
-#[derive(Drop)]
+#[derive(Clone, Copy)]
 pub enum Mode {
     Blank,
     Naming(u16),
@@ -29,7 +29,7 @@ pub enum Mode {
 }
 
 // Where in a line: inside it, in its comment, behind its CR, behind its end.
-#[derive(Drop)]
+#[derive(Clone, Copy)]
 pub enum Line {
     Inside,
     Comment,
@@ -37,7 +37,7 @@ pub enum Line {
     Ended,
 }
 
-#[derive(Drop)]
+#[derive(Clone, Copy)]
 pub enum Step {
     Next {
         line: Line,

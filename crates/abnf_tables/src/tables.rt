@@ -5,7 +5,7 @@ ghost use Rattle.abnf_tables.specs.Says.{tables_of, tables_say, Sane, SaneBuilt,
 
 use crate::words::{find_in, index};
 
-#[derive(Drop)]
+#[derive(Clone, Copy)]
 pub struct Counts {
     pub names: u16,
     pub literals: u16,
@@ -18,7 +18,7 @@ pub struct Counts {
     pub size: u16,
 }
 
-#[derive(Drop)]
+#[derive(Clone, Copy)]
 pub enum Built {
     Done(Counts),
     Refused { number: u16, place: u16 },

@@ -1,5 +1,7 @@
 // The decision automaton of each nonterminal of a table, written as bytes. For every k in use the engine is run twice: once for the sizes of the trees, which
 // decide all refusals, and once for their bytes, at places that are known by then.
+#![tactic(auto)]
+
 ghost use Rattle.std.specs.Prelude.{◌≤◌, length};
 ghost use Rattle.decision.specs.Steps.{Long, Given, grammar_of};
 ghost use Rattle.decision.specs.Onward.{Known};

@@ -1,5 +1,7 @@
 // The automata of a table as lines, or as a picture for Graphviz: their bytes are read back, state by state. Thin: what is worked out is the library's,
 // and proved there; here is text.
+#![tactic(auto)]
+
 ghost use Rattle.lines.specs.Waits.{Waits};
 
 use crate::text::{State, put_arrow, put_begun, put_close, put_ended, put_open};
@@ -13,7 +15,7 @@ pub use called::{front, put_input};
 pub use string_walk::{Reached, Stop, follow_string};
 
 // Where the walk is: the bytes that wait, and the place in the automata.
-#[derive(Drop)]
+#[derive(Clone, Copy)]
 struct Walk {
     at: usize,
     place: usize,

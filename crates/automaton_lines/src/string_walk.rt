@@ -57,7 +57,7 @@ fn target_of(bytes: &[u8], place: usize, count: u64, x: u64) -> u64 {
 }
 
 // A state: its production plus 1, or 0; how many arrows leave it, and where they stand.
-#[derive(Drop)]
+#[derive(Clone, Copy)]
 pub struct Stop {
     pub production: u64,
     pub arrows: u64,
@@ -76,7 +76,7 @@ fn stop_at(bytes: &[u8], first: usize, state: u64) -> Stop {
 }
 
 // How far a string comes: how many states there are, how many of its terminals were taken, and where it stops.
-#[derive(Drop)]
+#[derive(Clone, Copy)]
 pub struct Reached {
     pub states: u64,
     pub taken: usize,

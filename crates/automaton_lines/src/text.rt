@@ -4,7 +4,7 @@ ghost use Rattle.lines.specs.Waits.{Waits};
 use lines::{put, put_number, put_text};
 
 // A state of a nonterminal's automaton.
-#[derive(Drop)]
+#[derive(Clone, Copy)]
 pub struct State {
     pub nonterminal: u64,
     pub number: u64,

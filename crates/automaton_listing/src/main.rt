@@ -1,4 +1,6 @@
 // The automata of a table, by which a reader decides: the limit, c and the table from standard input, the bytes and then a line for each state.
+#![tactic(auto)]
+
 use libc::STDIN_FILENO;
 
 // It reads no more than 16,384 bytes, which no accepted input passes.

@@ -1,4 +1,6 @@
 // The automata of a table as a picture for Graphviz: the limit, c and the table from standard input, a box for each nonterminal.
+#![tactic(auto)]
+
 use libc::STDIN_FILENO;
 
 // It reads no more than 16,384 bytes, which no accepted input passes.

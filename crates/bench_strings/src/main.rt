@@ -1,6 +1,8 @@
 // A fixed work through the public functions, to measure. Each round makes two sets of strings of one to three slots, a member at a time, joins them at
 // k = 4 and unites the result with the first. The input is the number of rounds, of members, and of words (at most 2,049) for the join and for the
 // union; the output is a checksum of what every round made.
+#![tactic(auto)]
+
 ghost use Rattle.std.specs.Prelude.{◌<◌};
 
 use k_joins::k_concat;

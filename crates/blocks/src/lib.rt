@@ -1,5 +1,7 @@
 // Lent words that are cut into blocks of b words, a set in each: work on one block, and on the first n blocks. Words have m such blocks, or l.
 // Where a set is made its number of unfinished members is that at k.
+#![tactic(auto)]
+
 ghost use Rattle.std.specs.Prelude.{◌≤◌, ◌<◌, length};
 ghost use Rattle.k_tuple.specs.Packed.{WellFormed};
 ghost use Rattle.blocks.specs.Stores.{Sets, Both, BothAt, WithOne, WithOneAt, WithTwo, WithString, Raisable, Only, PutSingle, Raised, Joined, JoinAdded, United, UnitedBlock, Copied, CopiedBlock, Emptied, EmptiedFirst, TakenBlock, TakenFirst, AskedComplete};

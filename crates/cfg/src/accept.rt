@@ -128,7 +128,7 @@ fn is_new(right: &[u16], free: bool, marks: &[bool; 128], left: usize) -> bool
 }
 
 // The marks after a round, and whether one of them is new.
-#[derive(Drop)]
+#[derive(Clone, Copy)]
 struct Closing {
     marks: [bool; 128],
     grew: bool,

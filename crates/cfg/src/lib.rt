@@ -1,5 +1,6 @@
 // Numbered grammars: the table that a register's clerk writes is read into lent words, and tested.
 // Refusals 3 to 7 are the reader's (table), 8 and 9 the tests' behind it (accept).
+#![tactic(auto)]
 
 ghost use Rattle.std.specs.Prelude.{◌≡◌};
 

@@ -6,14 +6,14 @@ ghost use Rattle.cfg.specs.Words.{Below, Sound, SoundHead, SpanAt};
 ghost use Rattle.cfg.specs.Written.{symbol_of, productions_of, nonterminals, occurrences};
 
 // A value and the place behind it, or a refusal.
-#[derive(Drop)]
+#[derive(Clone, Copy)]
 pub enum Answer {
     Got { value: u16, next: usize },
     Refused(u16),
 }
 
 // The four numbers before the productions, and the place behind them.
-#[derive(Drop)]
+#[derive(Clone, Copy)]
 pub enum HeaderAnswer {
     Header {
         n: u16,
@@ -26,7 +26,7 @@ pub enum HeaderAnswer {
 }
 
 // A grammar whose productions stand in the first `used` of the lent words.
-#[derive(Drop)]
+#[derive(Clone, Copy)]
 pub enum TableAnswer {
     Table {
         n: u16,
@@ -39,7 +39,7 @@ pub enum TableAnswer {
 }
 
 // One production in the words: its left side, and the part that its symbols are.
-#[derive(Drop)]
+#[derive(Clone, Copy)]
 pub struct Span {
     pub left: u16,
     pub from: usize,

@@ -15,7 +15,7 @@ use cfg::table::TableAnswer;
 use engine::{Shape, lookahead_sets};
 
 // How a table's sets lie in the result, and its productions linked by their left sides.
-#[derive(Drop)]
+#[derive(Clone, Copy)]
 pub struct Plan {
     pub layout: Layout,
     pub links: [usize; 1152],

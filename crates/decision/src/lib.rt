@@ -1,4 +1,6 @@
 // Which k each nonterminal of a grammar needs.
+#![tactic(auto)]
+
 ghost use Rattle.std.specs.Prelude.{◌≡◌, ◌+◌, ◌*◌, ◌≤◌, length, take};
 ghost use Rattle.k_tuples.specs.Work.{refused as refused_by};
 ghost use Rattle.analysis.specs.Analysis.{result_needs, scratch_needs};
@@ -21,7 +23,7 @@ mod own;
 mod pairs;
 
 // What the call answers: the refusal of the whole call, 0 where there is none; how many nonterminals there are; for each its refusal, 0, 11 or 22, and its k.
-#[derive(Drop)]
+#[derive(Clone, Copy)]
 pub struct Needed {
     pub refusal: u64,
     pub n: u64,
@@ -30,7 +32,7 @@ pub struct Needed {
 }
 
 // The grammar's nonterminals and productions; the result in blocks of b words, so many sets.
-#[derive(Drop)]
+#[derive(Clone, Copy)]
 pub struct Layout {
     pub n: usize,
     pub p: usize,

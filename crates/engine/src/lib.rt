@@ -1,4 +1,6 @@
 // The engine's call, and asking for one set of its result.
+#![tactic(auto)]
+
 ghost use Rattle.std.specs.Prelude.{◌≡◌, ◌+◌, ◌*◌, ◌≤◌, ◌<◌, length};
 ghost use Rattle.cfg.specs.Write.{Bytes};
 ghost use Rattle.k_tuples.specs.Work.{refused as refused_by};
@@ -21,7 +23,7 @@ pub mod ask;
 
 // What the call answers: the number of a refusal, 0 where there is none; the grammar's sizes; the width of its strings; the rounds of each level,
 // 0 for a level that was not run; the rounds of FOLLOW.
-#[derive(Drop)]
+#[derive(Clone, Copy)]
 pub struct Lookahead {
     pub refusal: u64,
     pub n: u64,
@@ -33,7 +35,7 @@ pub struct Lookahead {
 }
 
 // The four numbers before a table's productions.
-#[derive(Drop)]
+#[derive(Clone, Copy)]
 pub struct Shape {
     pub n: u16,
     pub t: u16,

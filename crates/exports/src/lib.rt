@@ -1,5 +1,7 @@
 // The surface for C, and for any language that calls C: a static library. A slice is passed as a pointer and a length. A function answers by the
 // number of a refusal, 0 where there is none, and leaves its other numbers in lent words.
+#![tactic(auto)]
+
 ghost use Rattle.std.specs.Prelude.{◌≡◌, length, [], ◌∷◌};
 ghost use Rattle.k_tuple.specs.Paper.{gives};
 ghost use Rattle.exports.specs.Told.{too_few, Wrote, Told, part_of};
@@ -17,7 +19,7 @@ pub mod sets;
 pub mod strings;
 
 // A refusal and one number.
-#[derive(Drop)]
+#[derive(Clone, Copy)]
 pub struct Said {
     pub number: u64,
     pub value: u64,

@@ -83,7 +83,7 @@ fn start_sets(res: &mut [u64], u: Setup)
 }
 
 // The rounds of each level, and 0 for each unused one; or a refusal, which is not 0, and no rounds.
-#[derive(Drop)]
+#[derive(Clone, Copy)]
 pub struct LevelRounds {
     pub refusal: u64,
     pub rounds: [u64; 10],

@@ -1,5 +1,6 @@
 // FIRST over two lent buffers that are cut into blocks, a set in each. The result begins with the sets of the nonterminals as they stand,
 // the scratch with the new ones of a round; behind those, set n of the scratch is where a join is made.
+#![tactic(auto)]
 
 pub mod due;
 pub mod level;
@@ -8,7 +9,7 @@ pub mod right;
 pub mod round;
 
 // The grammar's four numbers; the lent words in blocks of b words, so many in the result and in the scratch; the width of all strings.
-#[derive(Drop)]
+#[derive(Clone, Copy)]
 pub struct Setup {
     pub n: usize,
     pub t: usize,
@@ -21,7 +22,7 @@ pub struct Setup {
 }
 
 // How rounds end: settled after so many, or with a refusal.
-#[derive(Drop)]
+#[derive(Clone, Copy)]
 pub enum Ending {
     Settled(u64),
     Refused(u64),

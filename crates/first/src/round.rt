@@ -88,7 +88,7 @@ fn add_productions(
 }
 
 // How a round ends: with the sets before it, with others, or a set was too large.
-#[derive(Drop)]
+#[derive(Clone, Copy)]
 pub enum Round {
     Same,
     Changed,

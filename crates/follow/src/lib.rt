@@ -1,6 +1,8 @@
 // FOLLOW over two lent buffers that are cut into blocks, a set in each. The result begins with FIRST of the nonterminals and of the
 // productions; behind those it gets FOLLOW of the nonterminals, and a set for each position. While FOLLOW runs, a position's set is its
 // suffix set, and the scratch begins with a copy of the FOLLOW sets.
+#![tactic(auto)]
+
 pub mod begin;
 pub mod place;
 pub mod round;

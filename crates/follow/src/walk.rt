@@ -7,7 +7,7 @@ use cfg::wide;
 
 // A place on the way. The symbols from at to end are left of a right side, whose left side is source, and so many productions stand behind
 // them. The nonterminal that was met last is target.
-#[derive(Drop)]
+#[derive(Clone, Copy)]
 pub struct Walk {
     pub at: usize,
     pub end: usize,

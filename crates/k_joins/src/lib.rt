@@ -1,4 +1,6 @@
 // Joining two sets in lent words. The function here tests what it is given, and refuses by the numbers of the rules.
+#![tactic(auto)]
+
 ghost use Rattle.std.specs.Prelude.{◌≡◌, length};
 ghost use Rattle.k_tuples.specs.Answers.{set_on_paper};
 ghost use Rattle.k_joins.specs.Answers.{join_answer, join_words};

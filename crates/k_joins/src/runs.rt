@@ -24,7 +24,7 @@ const CHUNK: usize = 127;
 const RUN: usize = 127;
 
 // Where a join goes on, or that there is no room.
-#[derive(Drop)]
+#[derive(Clone, Copy)]
 pub struct Next {
     pub full: bool,
     pub at: usize,

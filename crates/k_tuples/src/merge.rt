@@ -8,7 +8,7 @@ use crate::set::{Grown, copy_front, count, member, place, read, room, set_count}
 use k_tuple::Terminals;
 
 // Where the number of one member stands to that of another.
-#[derive(Drop)]
+#[derive(Clone, Copy)]
 pub enum Side {
     Below,
     Same,

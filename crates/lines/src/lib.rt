@@ -1,4 +1,6 @@
 // A listing: k, c and a table become FIRST and FOLLOW as lines of text. Thin: what is worked out is the library's, and proved there; here is text.
+#![tactic(auto)]
+
 ghost use Rattle.lines.specs.Waits.{Waits};
 
 use crate::positions::put_positions;
@@ -150,7 +152,7 @@ fn refusal(answer: Answer) -> u64 {
 }
 
 // The two numbers before a table, both read before either is tested, and where it begins; or the refusal of one that cannot be read.
-#[derive(Drop)]
+#[derive(Clone, Copy)]
 pub struct Before {
     pub refusal: u64,
     pub first: u64,

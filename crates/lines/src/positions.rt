@@ -7,7 +7,7 @@ use crate::wide;
 use cfg::table::{Answer, read_number};
 
 // Where the walk is: the bytes that wait, the place in the table, and how many positions are behind it.
-#[derive(Drop)]
+#[derive(Clone, Copy)]
 struct Walk {
     at: usize,
     place: usize,
@@ -15,7 +15,7 @@ struct Walk {
 }
 
 // A number of a table and the place behind it.
-#[derive(Drop)]
+#[derive(Clone, Copy)]
 pub struct Read {
     pub value: u64,
     pub next: usize,

@@ -7,7 +7,7 @@ use k_tuples::set::counted;
 use lookahead::{Terminals, set_of};
 
 // How many sets a result has, and the member room of each: what asking for one set names.
-#[derive(Drop)]
+#[derive(Clone, Copy)]
 pub struct Sizes {
     pub n: usize,
     pub p: usize,

@@ -1,4 +1,6 @@
 // The listing of one input: k, c and a table from standard input, FIRST and FOLLOW as lines of text.
+#![tactic(auto)]
+
 use libc::STDIN_FILENO;
 
 // It reads no more than 16,384 bytes, which no accepted input passes.

@@ -1,5 +1,6 @@
 // The public surface: everything that a user may call, and nothing else. No function here asks anything of its caller: what cannot be answered is
 // refused by number, and its contract says what then stands in every lent word.
+#![tactic(auto)]
 
 // ---- packed strings: `Terminals`, two words by value, with its methods
 //   Terminals::eps(m)              ε, for the greatest terminal m

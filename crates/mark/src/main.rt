@@ -1,4 +1,6 @@
 // The marking of a text of predictions from standard input: whether it is accepted, or what is wrong and what would be right.
+#![tactic(auto)]
+
 use libc::STDIN_FILENO;
 
 // It reads no more than 65,536 bytes.

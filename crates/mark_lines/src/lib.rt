@@ -1,5 +1,7 @@
 // A text of predictions marked, as lines: accepted, or what is wrong, and then what would be right there. Thin: the marking is the library's, and proved
 // there; here is text.
+#![tactic(auto)]
+
 ghost use Rattle.lines.specs.Waits.{Waits};
 
 use crate::right::{put_right, put_string};
@@ -14,7 +16,7 @@ use replay::find;
 mod right;
 
 // A row as its words have it, of a production or of none.
-#[derive(Drop)]
+#[derive(Clone, Copy)]
 struct Prediction {
     nonterminal: u64,
     string: Terminals,

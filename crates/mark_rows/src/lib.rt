@@ -1,5 +1,7 @@
 // A text of predictions becomes rows of words. Its first line is the limit, c and the table as hexadecimal pairs; every other line is a row: the
 // nonterminal, the terminals of its string and the production, parted by colons, as `1: 5 6: 2`. Lines of blanks are passed over.
+#![tactic(auto)]
+
 ghost use Rattle.std.specs.Prelude.{◌≡◌};
 ghost use Rattle.io.specs.Counts.{IsPrefixLen};
 
@@ -51,7 +53,7 @@ fn put_byte(into: &mut [u8], count: usize, b: u64) -> usize
 }
 
 // What was read of pairs: whether all are, and how many bytes they are.
-#[derive(Drop)]
+#[derive(Clone, Copy)]
 pub struct Pairs {
     pub ok: bool,
     pub count: usize,
@@ -82,7 +84,7 @@ pub fn read_pairs(line: &[u8], into: &mut [u8]) -> Pairs
 // ---- the other lines
 
 // What was read of a string: whether a colon ends it, its words, and the place behind it.
-#[derive(Drop)]
+#[derive(Clone, Copy)]
 struct Read {
     ok: bool,
     string: Terminals,
@@ -138,7 +140,7 @@ fn read_string(line: &[u8], at: usize, m: u64) -> Read {
 }
 
 // A row, or a line without one, or one that is none.
-#[derive(Drop)]
+#[derive(Clone, Copy)]
 enum Row {
     Words {
         nonterminal: u64,
@@ -223,7 +225,7 @@ fn put_words(
 }
 
 // Whether a line was taken, and how many words there are then.
-#[derive(Drop)]
+#[derive(Clone, Copy)]
 struct Taken {
     ok: bool,
     count: usize,
@@ -251,7 +253,7 @@ fn take_row(rows: &mut [u64], count: usize, row: Row) -> Taken
 }
 
 // What was read of rows: how many words they are, and the number of the first line that is no row or has no room, or 0.
-#[derive(Drop)]
+#[derive(Clone, Copy)]
 pub struct Rows {
     pub count: usize,
     pub bad: u64,

@@ -23,7 +23,7 @@ pub fn digit(b: u8) -> u64 {
 }
 
 // What stands at a place of a line, and the place behind it.
-#[derive(Drop)]
+#[derive(Clone, Copy)]
 pub enum Token {
     Number { value: u64, next: usize },
     Colon { next: usize },

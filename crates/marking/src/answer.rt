@@ -2,7 +2,7 @@
 
 // What the call answers: its refusal, 0 where the table is accepted. For 24 the number of the first bad row; for 25 the nonterminal of the first missing
 // string, and the string's two words. Every number that does not apply is 0.
-#[derive(Drop)]
+#[derive(Clone, Copy)]
 pub struct Mark {
     pub refusal: u64,
     pub row: u64,

@@ -11,7 +11,7 @@ use k_tuple::parts::lower;
 use k_tuples::set::{count, member};
 
 // A string without a row, where one was found.
-#[derive(Drop)]
+#[derive(Clone, Copy)]
 pub struct Lack {
     pub found: bool,
     pub lo: u64,
@@ -19,7 +19,7 @@ pub struct Lack {
 }
 
 // The first nonterminal with such a string, and the string; the number of all nonterminals where there is none.
-#[derive(Drop)]
+#[derive(Clone, Copy)]
 pub struct Missed {
     pub nonterminal: usize,
     pub lo: u64,

@@ -1,5 +1,7 @@
 // Marking a hand-written prediction table: level by level, a level being the nonterminals that need one k, its rows are looked up in the joined sets of that k,
 // and then the strings sought that have no row.
+#![tactic(auto)]
+
 ghost use Rattle.std.specs.Prelude.{◌≡◌, ◌*◌, ◌≤◌, length};
 ghost use Rattle.marking.specs.Lines.{Stand};
 ghost use Rattle.decision.specs.Steps.{Given, grammar_of};
@@ -20,7 +22,7 @@ mod look;
 
 // What was found so far: the first bad row, or how many rows are whole; the first nonterminal with a string without a row, and the string, or the number of
 // all nonterminals.
-#[derive(Drop)]
+#[derive(Clone, Copy)]
 pub struct Found {
     pub bad: usize,
     pub nonterminal: usize,

@@ -1,4 +1,6 @@
 // The k that each nonterminal of a table needs: the limit, c and the table from standard input, a line of text for each nonterminal.
+#![tactic(auto)]
+
 use libc::STDIN_FILENO;
 
 // It reads no more than 16,384 bytes, which no accepted input passes.

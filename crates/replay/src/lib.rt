@@ -1,4 +1,6 @@
 // Stored cases as text, one to a line: a word, then columns of hexadecimal numbers. Columns are parted by `|`, numbers by spaces.
+#![tactic(auto)]
+
 ghost use Rattle.std.specs.Prelude.{◌≡◌, ◌≤◌, length};
 ghost use Rattle.io.specs.Counts.{IsPrefixLen};
 
@@ -7,7 +9,7 @@ mod print;
 pub use print::{decimal, readable, refused, slots, told, truth, words};
 
 // What stands at a place of a line, and the place behind it.
-#[derive(Drop)]
+#[derive(Clone, Copy)]
 enum Token {
     Number { value: u64, next: usize },
     Bar { next: usize },
@@ -17,7 +19,7 @@ enum Token {
 
 // What was read of a column: how many numbers, whether it is the line's last, and where the next one starts.
 // Where it is not ok, the line is unreadable.
-#[derive(Drop)]
+#[derive(Clone, Copy)]
 pub struct Column {
     pub ok: bool,
     pub last: bool,

@@ -1,12 +1,14 @@
 // Runs stored texts of rules through the public reader, and prints the table of each, as hexadecimal pairs, or its refusal. A text stands behind a line
 // of ten bytes: the number of bytes that are lent for its table and its length, four hexadecimal digits each.
+#![tactic(auto)]
+
 use abnf::grammar::{TableAnswer, read_abnf};
 use libc::{STDIN_FILENO, STDOUT_FILENO};
 use replay::{decimal, read_column, told};
 use replay_tables::{MARK_BYTE, kept, pairs};
 
 // What the line before a text says.
-#[derive(Drop)]
+#[derive(Clone, Copy)]
 struct Case {
     ok: bool,
     room: usize,

@@ -1,5 +1,7 @@
 // Runs stored cases of `automata`, a case a line: the limit, c and how many bytes are lent, then the bytes of the table. Prints the automata as hexadecimal
 // pairs, or the refusal. All that is lent is full of marks before a call, so that what is left as it came is seen.
+#![tactic(auto)]
+
 use automaton::automata;
 use libc::STDIN_FILENO;
 use replay::{find, is, read_column, readable, refused, told};

@@ -1,11 +1,13 @@
 // Runs stored inputs through the same code as `listing`, and prints each as a line `case` with its name and its listing behind it.
 // An input stands behind a line of nine bytes: a name of three, a blank, its length in four hexadecimal digits, the line's end.
+#![tactic(auto)]
+
 ghost use Rattle.lines.specs.Waits.{Waits};
 
 use libc::STDIN_FILENO;
 use replay::{read_column, told};
 
-#[derive(Drop)]
+#[derive(Clone, Copy)]
 enum Length {
     Bytes(usize),
     Unreadable,

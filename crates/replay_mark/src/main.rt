@@ -1,5 +1,7 @@
 // Runs stored cases of `mark`, a case a line: the limit and c, then the bytes of the table, then four words for each row. Prints what is wrong, or that the
 // rows are accepted. Both buffers are full of marks before a call, so that words left as they came are seen.
+#![tactic(auto)]
+
 use k_tuple::Terminals;
 use libc::{STDIN_FILENO, STDOUT_FILENO};
 use marking::mark;

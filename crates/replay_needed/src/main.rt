@@ -1,5 +1,7 @@
 // Runs stored cases of `needed_k`, a case a line: the limit and c, then the bytes of the table. Prints for each nonterminal its k, or r and its refusal,
 // or the refusal of the whole call. Both buffers are full of marks before a call, so that words left as they came are seen.
+#![tactic(auto)]
+
 use libc::{STDIN_FILENO, STDOUT_FILENO};
 use lookahead::{Needed, needed_k};
 use replay::{decimal, find, is, read_column, readable, refused, told};

@@ -1,5 +1,7 @@
 // Stored cases of calls that work in lent bytes and words: numbers become a table's bytes, and what is lent is full of marks before a call, so that it
 // shows what the call changed.
+#![tactic(auto)]
+
 ghost use Rattle.io.specs.Counts.{IsPrefixLen};
 
 use libc::STDOUT_FILENO;

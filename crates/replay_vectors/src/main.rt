@@ -1,4 +1,6 @@
 // Runs stored cases of single operations through the public functions, a case a line, and prints each answer on a line.
+#![tactic(auto)]
+
 use libc::STDIN_FILENO;
 use replay::{find, readable};
 

@@ -1,4 +1,6 @@
 // One nonterminal's decision automaton: from its joined strings with their productions to the bytes of their prefix tree. Each of the two calls has 40,960 bytes of local arrays.
+#![tactic(auto)]
+
 ghost use Rattle.std.specs.Prelude.{◌≤◌, length};
 ghost use Rattle.trees.specs.Answer.{Strings, Measured, Written};
 
@@ -11,7 +13,7 @@ pub mod output;
 pub mod tree;
 
 // What is told of a tree that is to be written: more than 2,048 states, too few bytes, or the place behind it.
-#[derive(Drop)]
+#[derive(Clone, Copy)]
 pub enum Told {
     TooMany,
     NoRoom,

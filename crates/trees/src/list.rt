@@ -9,7 +9,7 @@ use k_tuple::well::{cut, slot};
 use k_tuples::set::read;
 
 // How many there are, or that there are too many.
-#[derive(Drop)]
+#[derive(Clone, Copy)]
 pub enum Size {
     Full,
     Holds(usize),

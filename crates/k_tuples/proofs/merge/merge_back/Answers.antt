@@ -1,0 +1,26 @@
+-- `k_tuples::merge::merge_back` meets its contract. Its loop is a `Backing`. Assumes nothing.
+use native.Mathlib.Omega.{arith}
+use borrow.Author.Rules.{rules}
+use Rattle.k_tuples.proofs.Merging.{back_start, back_below, back-same, back_above, back-stop, front-room, back_end}
+use Rattle.k_tuples.proofs.merge.merge_back.Goals as goal
+
+pub loop-i-init : goal.loop-i-init
+loop-i-init c = search back_start
+
+pub returns-then-m-i : goal.returns-then-m-i
+returns-then-m-i c = search back-stop
+
+pub loop-i-preserved-in-Below : goal.loop-i-preserved-in-Below
+loop-i-preserved-in-Below c = back_below c.loop-i.invariant c.loop-i-test.true (omega (arith, c.if-m-i.false)) c.read-x.ensures c.read-y.ensures c.compare.ensures c.in-Below.is c.put.ensures
+
+pub loop-i-preserved-in-Same : goal.loop-i-preserved-in-Same
+loop-i-preserved-in-Same c = back-same c.loop-i.invariant c.loop-i-test.true (omega (arith, c.if-m-i.false)) c.read-x.ensures c.read-y.ensures c.compare.ensures c.in-Same.is c.put-in-Same.ensures
+
+pub loop-i-preserved : goal.loop-i-preserved
+loop-i-preserved c = back_above c.loop-i.invariant c.loop-i-test.true (omega (arith, c.if-m-i.false)) c.read-x.ensures c.read-y.ensures c.compare.ensures c.in-Above.is c.put-in-Above.ensures
+
+pub put_first-requires : goal.put_first-requires
+put_first-requires c = ((search rules, search rules), (search rules, search front-room))
+
+pub returns : goal.returns
+returns c = search back_end

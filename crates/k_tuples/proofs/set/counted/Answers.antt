@@ -1,0 +1,7 @@
+-- `k_tuples::set::counted` meets its contract. Assumes nothing.
+use Rattle.k_tuples.specs.Words.{count_in}
+use Rattle.k_tuples.proofs.set.counted.Goals as goal
+
+pub returns : goal.returns
+unfolding count_in
+returns c = c.index.ensures
