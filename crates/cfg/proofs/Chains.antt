@@ -1,16 +1,15 @@
 -- What the walk marks is what chains of left corners reach. Assumes nothing.
 use Prim.Native.Nat.{ℕ, zero, suc, ◌≤◌, ◌<◌}
 use native.Mathlib.Omega.{arith}
-use mathlib.Core.Path.{◌≡◌, refl, sym, ap, subst, ◌∙◌}
+use mathlib.Core.Path.{◌≡◌, refl, ◌∙◌}
 use mathlib.Core.Logic.{◌⊎◌, inl, inr, ⊎_elim}
 use mathlib.Core.List.Memᴰ
-use mathlib.Core.List.{List, [], ◌∷◌, ◌++◌, Memᴰ}
+use mathlib.Core.List.{List, [], ◌∷◌, Memᴰ}
 use mathlib.Core.Bool.{Bool, true, false}
-use lib.ListN.{length, get_or, set, replicate, length-set}
-use Rattle.cfg.specs.Reading.{pick}
+use lib.ListN.{length, get_or, set, length-set}
 use Rattle.cfg.specs.Grammar.{Production, Chain, one, more}
 use Rattle.cfg.specs.Marks.{Marked}
-use Rattle.cfg.proofs.Marks.{unmarked, marked-or-not, not-both, mark-kept, mark-here, mark-cases, none-unmarked, unmarked-fewer, unmarked-all, unmarked-less}
+use Rattle.cfg.proofs.Marks.{unmarked, marked-or-not, mark-kept, mark-here, mark-cases, none-unmarked, unmarked-fewer, unmarked-less}
 use Rattle.cfg.specs.Corners.{corners, turn, visit, walk}
 
 -- b is one of those that `next` gives for a
@@ -32,6 +31,7 @@ module _ (next : ℕ → List ℕ) where
     pub all : (y : ℕ) → Memᴰ y bs → Marked r y
 
   pub from-chain : {x b : ℕ} (bs : List ℕ) → ((y : ℕ) → Memᴰ y bs → Memᴰ y (next b)) → From next x bs → Chain (Next next) b x
+  from-chain {b = b} [] f x3 = elim x3 [ ]
   from-chain (c ∷ bs) f (here (inl e)) = one (Memᴰ.cast e (f c (Memᴰ.head refl)))
   from-chain (c ∷ bs) f (here (inr k)) = more (f c (Memᴰ.head refl)) k
   from-chain (c ∷ bs) f (later r) = from-chain bs (λ y i. f y (Memᴰ.tail i)) r
@@ -57,6 +57,7 @@ module _ (next : ℕ → List ℕ) where
     where
       first : {x : ℕ} → From next x (b ∷ []) → From next x (b ∷ bs)
       first (here k) = here k
+      first (later x4) = elim x4 [ ]
 
   -- one that is marked is passed over
   reached-marked : (m : List Bool) (b : ℕ) → Marked m b → Reached m (b ∷ []) m

@@ -5,14 +5,14 @@ use mathlib.Core.Path.{◌≡◌, refl, sym, ap, ◌∙◌}
 use mathlib.Core.Logic.{◌⊎◌, inl, inr, ⊎_elim}
 use mathlib.Core.List.Memᴰ
 use mathlib.Core.List.{List, [], ◌∷◌, Memᴰ}
-use mathlib.Core.Bool.{Bool, true, false, ◌&&◌}
+use mathlib.Core.Bool.{Bool, true, false}
 use lib.ListN.{length, get_or, set, length-set}
 use lib.Seq.{set-get_or}
 use Rattle.cfg.specs.Reading.{pick}
 use Rattle.cfg.specs.Grammar.{Sym, nonterminal, terminal, Production, Grammar, Rule, Closed, none_left, free-terminal, by-rule}
 use Rattle.cfg.proofs.Sound.{both}
 use Rattle.cfg.specs.Marks.{Marked}
-use Rattle.cfg.proofs.Marks.{unmarked, marked-or-not, not-both, bool_cases, mark-kept, mark-here, mark-cases, none-unmarked, unmarked-fewer, unmarked-all, unmarked-less}
+use Rattle.cfg.proofs.Marks.{unmarked, marked-or-not, not-both, bool_cases, mark-kept, mark-cases, none-unmarked, unmarked-fewer, unmarked-less}
 use Rattle.cfg.specs.Closure.{all_marked, close_one, close_round, close_rounds}
 
 module _ (free : Bool) (g : Grammar) where

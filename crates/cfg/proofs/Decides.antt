@@ -1,24 +1,23 @@
 -- The computed tests decide what they are to decide. Assumes nothing.
-use Prim.Native.Nat.{ℕ, zero, suc, ◌≤◌, ◌<◌}
-use native.Mathlib.Omega.{arith}
+use Prim.Native.Nat.{ℕ, ◌≤◌, ◌<◌}
 use mathlib.Core.Path.{◌≡◌, refl, sym, ap, ◌∙◌}
-use mathlib.Core.Logic.{◌↔◌, ◌⊎◌, inl, inr, ⊎_elim}
+use mathlib.Core.Logic.{◌↔◌, ⊎_elim}
 use mathlib.Core.List.Memᴰ
 use mathlib.Core.List.{List, [], ◌∷◌, ◌++◌, Memᴰ}
 use mathlib.Core.Bool.{Bool, true, false}
-use lib.ListN.{length, get_or}
+use lib.ListN.{get_or}
 use lib.Dec.{eqb}
 use borrow.Author.Tests.{eqb-true, eq-eqb}
 use Rattle.cfg.specs.Reading.{pick}
-use Rattle.cfg.specs.Grammar.{Sym, nonterminal, terminal, Production, Grammar, Rule, Closed, none_left, free-terminal, by-rule, Nullable, LeftCorner, Chain, one, more, LeftRecursive}
+use Rattle.cfg.specs.Grammar.{Sym, nonterminal, terminal, Production, Grammar, Closed, none_left, free-terminal, by-rule, Nullable, LeftCorner, Chain, one, more, LeftRecursive}
 use Rattle.cfg.specs.Words.{Below}
 use Rattle.cfg.proofs.Sound.{both}
-use Rattle.cfg.specs.Marks.{Marked, no_marks, any_below}
+use Rattle.cfg.specs.Marks.{Marked, no_marks}
 use Rattle.cfg.specs.Closure.{closure, all_marked}
 use Rattle.cfg.specs.Corners.{leading, corners, walk, comes_back, left_recursive}
 use Rattle.cfg.proofs.Marks.{unmarked-all, marked-or-not, not-both, bool_cases, no-mark, any_here, any-witness}
 use Rattle.cfg.proofs.Closes.{rounds-right, rounds-keep, kept-all}
-use Rattle.cfg.proofs.Chains.{From, from-chain, Next, Reached, walk-reaches}
+use Rattle.cfg.proofs.Chains.{from-chain, Next, Reached, walk-reaches}
 
 -- every nonterminal of a grammar's productions is below n
 pub record Numbered (n : ℕ) (ps : List Production) : Type 0 where
@@ -92,6 +91,7 @@ module _ (g : Grammar) (N : Numbered g.n g.productions) where
       (Memᴰ.append_cases (pick (eqb p.left a) (leading nulls p.right) []) i)
 
   corners-all : (qs : List Production) (a b : ℕ) (p : Production) → Memᴰ p qs → p.left ≡ a → Memᴰ b (leading nulls p.right) → Memᴰ b (corners nulls qs a)
+  corners-all [] a b p x3 l i = elim x3 [ ]
   corners-all (q ∷ qs) a b p (Memᴰ.head e) l i = Memᴰ.append_left {s = pick (eqb q.left a) (leading nulls q.right) []} (corners nulls qs a) (rw (eq-eqb q.left a (ap (λ (z : Production). z.left) (sym e) ∙ l), ← e) i)
   corners-all (q ∷ qs) a b p (Memᴰ.tail m) l i = Memᴰ.append_right (pick (eqb q.left a) (leading nulls q.right) []) (corners-all qs a b p m l i)
 

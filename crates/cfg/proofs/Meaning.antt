@@ -1,22 +1,21 @@
 -- What the refusals 8 and 9 say of a table that is read. Assumes nothing.
 use Prim.Native.Nat.{ℕ, zero, suc, ◌+◌, ◌-◌, ◌≤◌, ◌<◌}
 use native.Mathlib.Omega.{arith}
-use mathlib.Core.Path.{◌≡◌, refl, sym, ap, ◌∙◌}
-use mathlib.Core.Logic.{◌↔◌, ◌⊎◌, inl, inr, ⊎_elim}
+use mathlib.Core.Path.{◌≡◌, refl}
+use mathlib.Core.Logic.{◌↔◌, ⊎_elim}
 use mathlib.Core.List.Memᴰ
-use mathlib.Core.List.{List, [], ◌∷◌, map, Memᴰ}
-use mathlib.Core.Bool.{Bool, true, false, not}
-use lib.ListN.{length, get_or, take, drop}
+use mathlib.Core.List.{List, [], ◌∷◌, Memᴰ}
+use mathlib.Core.Bool.{Bool, true, false}
+use lib.ListN.{length, get_or, drop}
 use lib.Dec.{eqb}
 use borrow.Author.Tests.{not-true, eqb-true}
-use Rattle.cfg.specs.Reading.{Reading, got, refused, pick, ◌then◌}
+use Rattle.cfg.specs.Reading.{got, pick}
 use Rattle.cfg.specs.Grammar.{Sym, nonterminal, Rule, AllInRange, Grammar, Production, Productive, LeftRecursive, Ranged, Accepted}
-use Rattle.cfg.specs.Written.{productions_of, symbol_of, production_at}
+use Rattle.cfg.specs.Written.{productions_of}
 use Rattle.cfg.specs.Words.{Sound, Below}
-use Rattle.cfg.specs.Table.{read_table, header, field, productions, ends, grammar_of, Header}
+use Rattle.cfg.specs.Table.{read_table, header, field, productions, grammar_of, Header}
 use Rattle.cfg.proofs.Field.{field-got-least, field-got-most}
 use Rattle.cfg.proofs.Sound.{then-inverse, pick-inverse, productions-sound, InTable, range-in}
-use Rattle.cfg.specs.Marks.{Marked, any_below}
 use Rattle.cfg.specs.Closure.{closure}
 use Rattle.cfg.specs.Corners.{left_recursive}
 use Rattle.cfg.specs.Accept.{misses, unproductive, test_refusal, accept_table}

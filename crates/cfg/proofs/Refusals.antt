@@ -1,15 +1,14 @@
 -- The reader refuses by 3 to 7 only. Assumes nothing.
 use Prim.Native.Nat.{ℕ, zero, suc, ◌+◌, ◌-◌, ◌*◌, ◌≤◌, min}
-use mathlib.Core.Path.{◌≡◌, sym}
+use mathlib.Core.Path.{◌≡◌}
 use mathlib.Core.Bool.{Bool, true, false, ◌&&◌}
 use mathlib.Core.List.{List, [], ◌∷◌, ◌++◌}
 use native.Mathlib.Omega.{arith}
 use lib.ListN.{length, get_or}
 use lib.Dec.{ltb, leb, eqb}
-use Rattle.cfg.specs.Grammar.{Grammar}
 use Rattle.cfg.specs.Reading.{Reading, got, refused, pick, ◌then◌}
 use Rattle.cfg.specs.Number.{byte, number}
-use Rattle.cfg.specs.Table.{field, is_symbol, symbol, symbols, production, productions, header, Header, ends, grammar_of, read_table}
+use Rattle.cfg.specs.Table.{field, is_symbol, symbol, symbols, production, productions, header, grammar_of, read_table}
 use Rattle.cfg.proofs.Field.{got-refused}
 
 -- a refusal is one of these

@@ -1,16 +1,15 @@
 -- The cases of `read_table`. Assumes nothing.
 use Prim.Native.Nat.{ℕ, ◌+◌, ◌*◌, ◌≤◌}
 use native.Mathlib.Omega.{arith}
-use mathlib.Core.Path.{◌≡◌, refl, sym, ap, ◌∙◌}
+use mathlib.Core.Path.{◌≡◌, sym, ap, ◌∙◌}
 use mathlib.Core.List.{List, []}
 use lib.ListN.{length, take}
 use borrow.Author.Tests.{eq-eqb, ne_eqb}
 use Rattle.cfg.specs.declared.table.Answer.{Answer}
 use Rattle.cfg.specs.declared.table.Answer.TheVariants.{Got, Refused}
 use Rattle.cfg.specs.declared.table.HeaderAnswer.{HeaderAnswer}
-use Rattle.cfg.specs.Reading.{Reading, got, refused, ◌then◌}
+use Rattle.cfg.specs.Reading.{got, refused}
 use Rattle.cfg.specs.Table.{header, productions, read_table, grammar_of, header_says, header_refusal_of, says_words, refusal_of, HeaderInside, GrammarSound, UsesBetween}
-use Rattle.cfg.specs.Words.{Sound}
 use Rattle.cfg.proofs.Sound.{productions-sound}
 
 -- a header that is read keeps its limits

@@ -3,7 +3,6 @@
 use mathlib.Core.Path.{sym, ◌∙◌}
 use borrow.Author.Tests.{not-true}
 use Rattle.cfg.proofs.Rounds.{repeats-start, repeats-more, repeats-still, repeats-done}
-use Prim.Native.Nat.{◌-◌}
 use Rattle.cfg.proofs.accept.close.Goals as goal
 
 pub loop-k-init : goal.loop-k-init

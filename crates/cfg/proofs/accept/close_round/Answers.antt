@@ -3,9 +3,8 @@
 use borrow.Author.Rules.{rules}
 use Rattle.cfg.proofs.Rounds.{closes-start, closes-done, closes-mark, closes-pass}
 use Rattle.cfg.proofs.Cursor.{head, span_left, span_below}
-use mathlib.Core.Logic.{⊎_elim}
-use Prim.Native.Nat.{◌-◌}
 use Rattle.cfg.proofs.accept.close_round.Goals as goal
+use Rattle.cfg.proofs.accept.close_round.Goals.{then-is_new, else-is_new}
 
 pub loop-i-init : goal.loop-i-init
 loop-i-init c = search closes-start
@@ -20,7 +19,7 @@ pub bounds-closed-left : goal.bounds-closed-left
 bounds-closed-left c = search span_left
 
 pub loop-i-preserved : goal.loop-i-preserved
-loop-i-preserved c = ⊎_elim (λ w. search closes-mark) (λ w. search closes-pass) c.if-is_new.branch
+loop-i-preserved c = elim c.if-is_new.branch [ then-is_new w ↦ search closes-mark | else-is_new w ↦ search closes-pass ]
 
 pub returns-clause-closes : goal.returns-clause-closes
 returns-clause-closes c = search closes-done

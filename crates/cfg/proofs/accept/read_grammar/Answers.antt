@@ -3,8 +3,11 @@
 use Rattle.cfg.proofs.Tests.{known-sound, nonterminals-few, words_inside, words-length, words-sound, grammar-accepted, grammar-refused, table-refused}
 use Rattle.cfg.proofs.accept.read_grammar.Goals as goal
 
-pub returns-in_default : goal.returns-in_default
-returns-in_default c = search table-refused
+pub returns-in_default-clause-reads : goal.returns-in_default-clause-reads
+returns-in_default-clause-reads c = search table-refused
+
+pub returns-in_default-clause-sound : goal.returns-in_default-clause-sound
+returns-in_default-clause-sound c = search table-refused
 
 pub slice_bounds-test_refusal-end : goal.slice_bounds-test_refusal-end
 slice_bounds-test_refusal-end c = search words_inside

@@ -2,7 +2,6 @@
 -- Assumes nothing.
 use Rattle.cfg.proofs.Search.{searched-start, searched-found, searched-more, searched-done}
 use Rattle.cfg.proofs.Walk.{missed}
-use Prim.Native.Nat.{◌-◌}
 use Rattle.cfg.proofs.accept.some_unproductive.Goals as goal
 
 pub loop-a-init : goal.loop-a-init

@@ -1,7 +1,6 @@
 -- `table::count_nonterminals` meets its contract: the invariant, `Counts`, adds what is left to what is counted.
 -- Assumes nothing.
 use Rattle.cfg.proofs.Count.{counts_start, counts-done, counts-terminal, counts-nonterminal}
-use Prim.Native.Nat.{◌-◌}
 use Rattle.cfg.proofs.table.count_nonterminals.Goals as goal
 
 pub loop-j-init : goal.loop-j-init

@@ -5,7 +5,7 @@ use Rattle.cfg.proofs.Count.{totals-start, totals-done, totals-fit, totals-more}
 use Rattle.cfg.proofs.Cursor.{head, span_below}
 use lib.ListN.{length}
 use native.Mathlib.Omega.{arith}
-use Prim.Native.Nat.{◌-◌, ◌+◌, ◌≤◌}
+use Prim.Native.Nat.{◌+◌, ◌≤◌}
 use Rattle.cfg.proofs.table.count_occurrences.Goals as goal
 
 pub loop-i-init : goal.loop-i-init

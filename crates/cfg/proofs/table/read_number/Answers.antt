@@ -17,7 +17,7 @@ pub returns-then-high-eq0 : goal.returns-then-high-eq0
 returns-then-high-eq0 c = search not-shortest
 
 pub overflow_add-result : goal.overflow_add-result
-overflow_add-result c = omega (arith, c.shared_slice_known-2-1.given c.args.at)
+overflow_add-result c = omega (arith, c.type_inv.table c.args.at)
 
 pub returns-then-high-lt128 : goal.returns-then-high-lt128
 returns-then-high-lt128 c = search two-groups

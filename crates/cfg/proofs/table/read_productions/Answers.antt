@@ -2,15 +2,16 @@
 -- Assumes nothing.
 use Rattle.cfg.proofs.Productions.{production-refused, production-more, productions-start, productions-done}
 use Rattle.cfg.proofs.Field.{refused-uses}
-use Rattle.cfg.specs.Table.{productions}
-use Prim.Native.Nat.{◌-◌}
 use Rattle.cfg.proofs.table.read_productions.Goals as goal
 
 pub loop-i-init : goal.loop-i-init
 loop-i-init c = search productions-start
 
-pub returns-in_default : goal.returns-in_default
-returns-in_default c = search (production-refused, refused-uses)
+pub returns-in_default-clause-reads : goal.returns-in_default-clause-reads
+returns-in_default-clause-reads c = search (production-refused, refused-uses)
+
+pub returns-in_default-clause-uses : goal.returns-in_default-clause-uses
+returns-in_default-clause-uses c = search (production-refused, refused-uses)
 
 pub loop-i-preserved : goal.loop-i-preserved
 loop-i-preserved c = search production-more

@@ -10,7 +10,7 @@ pub bounds-words-second : goal.bounds-words-second
 bounds-words-second c = omega (arith, whole-at _ _ _ c.requires.0 c.requires.1)
 
 pub overflow_cast-size : goal.overflow_cast-size
-overflow_cast-size c = omega (arith, c.shared_slice_known-1.given (c.args.at + 1))
+overflow_cast-size c = omega (arith, c.type_inv.words (c.args.at + 1))
 
 pub bounds-words-at : goal.bounds-words-at
 bounds-words-at c = omega (arith, whole-at _ _ _ c.requires.0 c.requires.1)
