@@ -2,7 +2,7 @@
 use mathlib.Core.Path.{◌≡◌, refl, sym, ap, ap₂, ◌∙◌, subst}
 use mathlib.Core.Bool.{Bool, true, false, cond}
 use mathlib.Core.List.{List, [], ◌∷◌, ◌++◌, map, append_assoc, append-nil}
-use Prim.Native.Nat.{ℕ, zero, ◌+◌, ◌-◌, ◌*◌, ◌%◌, ◌^◌, ◌≤◌, ◌<◌}
+use Prim.Native.Nat.{ℕ, ◌+◌, ◌-◌, ◌*◌, ◌%◌, ◌^◌, ◌≤◌, ◌<◌}
 use native.Mathlib.Nat.{mod-eq_of_lt, min-eq_right, min-le_left}
 use native.Mathlib.Omega.{arith}
 use native.Mathlib.Decide.{dec_le}
@@ -20,8 +20,8 @@ use Rattle.k_tuples.specs.Members.{before, rising, adding, add_all}
 use Rattle.k_tuples.specs.Words.{count_word, number_in, member_at, encode, decode, room_of, IsSet, Grew, grown_from, is_full}
 use Rattle.k_tuples.specs.Cores.{with_gap}
 use Rattle.k_tuples.proofs.Rising.{both, rising-add_all, length-add_all, add_all-append}
-use Rattle.k_tuples.proofs.Words.{words-room, length-decode, rest-member, set-some, set-within, decode-encode, number-encode, length-encode, encode-is-set, encode-none, zeros-set}
-use Rattle.k_tuples.proofs.Inserting.{grown-full, grew-idle, gap-encode, gap-number}
+use Rattle.k_tuples.proofs.Words.{words-room, length-decode, rest-member, set-some, set-within, decode-encode, length-encode, encode-is-set, encode-none, zeros-set}
+use Rattle.k_tuples.proofs.Inserting.{grown-full, grew-idle, gap-encode}
 use Rattle.k_tuples.proofs.Filling.{Way, Filling, grown-fits, grew-over, grew-length, grew-decode, grew-number, grew-set}
 use Rattle.k_joins.specs.Parts.{between, cut_of, CutAdded, KeptStep, cuts_of, keep_of, keeps_of, follows_of, run_of, meet_of, meets_of, left_of, lefts_of, InClass, ClassTold, ClassEnd, Follows, AllFollow, AllPairs, Coded, BlankCut, BlankRun, RunPart, Gathered, ChunkEnd}
 use Rattle.k_joins.proofs.Adding.{add_all-most}
@@ -376,7 +376,7 @@ module _ {k n old : ℕ} {xs ds entry out exit ws : List ℕ} {i e j f : ℕ} {g
   run-full = part-full h (part-from p) p.within (decode ws) run-same g told
 
 -- a set that takes what a class gives with a part of the second set
-module _ {k n old : ℕ} {ys entry out exit : List ℕ} {j f : ℕ} {goal : List Terminals} {r : Grown} {full : Bool} (A : List Terminals) (h : Filling (its-meet k A) ys entry goal n old j out)
+module _ (k : ℕ) {n old : ℕ} {ys entry out exit : List ℕ} {j f : ℕ} {goal : List Terminals} {r : Grown} {full : Bool} (A : List Terminals) (h : Filling (its-meet k A) ys entry goal n old j out)
     (c : ChunkEnd n j f) (g : Grew out exit (add_all (meets_of k A (between j f ys)) (decode out)) r) (told : full ≡ is_full r) where
   pub chunk-taken : full ≡ false → Filling (its-meet k A) ys entry goal n old f exit
   chunk-taken = let more = c.more in part-more h (omega arith) (omega (arith, c.within, h.counted)) _ refl g told

@@ -1,5 +1,5 @@
 -- The vocabulary of src/runs.rt: what is kept, cut and written on the way to a join, in packed strings. No public promise names any of it. Assumes nothing.
-use Rattle.std.specs.Prelude.{◌≡◌, Bool, true, false, cond, ◌||◌, List, [], ◌∷◌, ◌++◌, map, ℕ, ◌+◌, ◌-◌, ◌*◌, ◌≤◌, ◌<◌, length, get_or, take, drop, replicate}
+use Rattle.std.specs.Prelude.{◌≡◌, Bool, true, false, cond, ◌||◌, List, [], ◌∷◌, ◌++◌, map, ℕ, ◌+◌, ◌-◌, ◌*◌, ◌≤◌, ◌<◌, length, take, drop, replicate}
 use Rattle.k_tuple.specs.declared.Terminals.{Terminals}
 use Rattle.k_tuple.specs.Strings.{Str, eps, length_of, well_formed, count_field}
 use Rattle.k_tuple.specs.Packed.{Alike, packed, number_of, reads, joined, cut_in, eps_in, complete_in}

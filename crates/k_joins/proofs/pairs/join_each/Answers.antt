@@ -1,5 +1,4 @@
 -- `k_joins::pairs::join_each` meets its contract. Its loop is a `Filling`: each member of ys gives its join with x. Assumes nothing.
-use Prim.Native.Nat.{◌-◌}
 use borrow.Author.Rules.{rules}
 use Rattle.k_tuples.proofs.Filling.{fill_start, fill_more, fill-full, fill_end}
 use Rattle.k_joins.proofs.pairs.join_each.Goals as goal

@@ -1,5 +1,4 @@
 -- `k_joins::runs::class_end` meets its contract. Its loop is a `ClassEnd` at every turn. Assumes nothing.
-use Prim.Native.Nat.{◌-◌}
 use native.Mathlib.Omega.{arith}
 use Rattle.k_tuples.proofs.Words.{well-formed-at}
 use Rattle.k_joins.proofs.Running.{class-start, class-more}

@@ -1,5 +1,4 @@
 -- `k_joins::runs::cut_into` meets its contract. Its loop is a `Gathering` of cuts. Assumes nothing.
-use Prim.Native.Nat.{◌-◌}
 use native.Mathlib.Omega.{arith}
 use Rattle.k_joins.proofs.Running.{gather-start, gather-more, gather-end, one-cut}
 use borrow.Author.Rules.{rules}

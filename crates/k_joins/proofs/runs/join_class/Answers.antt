@@ -1,5 +1,4 @@
 -- `k_joins::runs::join_class` meets its contract. Its loop is a `Filling` by parts of the second set. Assumes nothing.
-use Prim.Native.Nat.{◌-◌}
 use native.Mathlib.Omega.{arith}
 use Rattle.k_joins.specs.Parts.{between}
 use Rattle.k_tuples.proofs.Filling.{fill_start, fill_end}
@@ -23,7 +22,7 @@ pub shape_of-r-then-is_full : goal.shape_of-r-then-is_full
 shape_of-r-then-is_full c = blank-long 255 c.join_chunk.ensures.cleared.1 c.requires.0.1.1
 
 pub returns-then-is_full-clause-grew : goal.returns-then-is_full-clause-grew
-returns-then-is_full-clause-grew c = chunk-full (between c.args.i c.args.e c.args.xs.now) c.loop-j.invariant.0 c.chunk_end-f.ensures c.join_chunk.ensures.grew c.is_full.ensures c.if-is_full.true
+returns-then-is_full-clause-grew c = chunk-full c.args.k (between c.args.i c.args.e c.args.xs.now) c.loop-j.invariant.0 c.chunk_end-f.ensures c.join_chunk.ensures.grew c.is_full.ensures c.if-is_full.true
 
 pub returns-then-is_full-clause-cleared : goal.returns-then-is_full-clause-cleared
 returns-then-is_full-clause-cleared c = (c.join_chunk.ensures.cleared.0, c.join_chunk.ensures.cleared.1)
@@ -32,7 +31,7 @@ pub loop-j-smaller : goal.loop-j-smaller
 loop-j-smaller c = let h = c.chunk_end-f.ensures.more in omega arith
 
 pub loop-j-preserved : goal.loop-j-preserved
-loop-j-preserved c = (chunk-taken (between c.args.i c.args.e c.args.xs.now) c.loop-j.invariant.0 c.chunk_end-f.ensures c.join_chunk.ensures.grew c.is_full.ensures c.if-is_full.false, (c.join_chunk.ensures.cleared.0, c.join_chunk.ensures.cleared.1))
+loop-j-preserved c = (chunk-taken c.args.k (between c.args.i c.args.e c.args.xs.now) c.loop-j.invariant.0 c.chunk_end-f.ensures c.join_chunk.ensures.grew c.is_full.ensures c.if-is_full.false, (c.join_chunk.ensures.cleared.0, c.join_chunk.ensures.cleared.1))
 
 pub growth-requires : goal.growth-requires
 growth-requires c = c.loop-j.invariant.0.is_set

@@ -1,5 +1,4 @@
 -- `k_joins::runs::keep_into` meets its contract. Its loop is a `Filling`: each member of xs gives itself, if it is complete. Assumes nothing.
-use Prim.Native.Nat.{◌-◌}
 use Rattle.k_tuples.proofs.Filling.{fill_start, fill_more, fill-full, fill_end}
 use borrow.Author.Rules.{rules}
 use Rattle.k_joins.proofs.runs.keep_into.Goals as goal

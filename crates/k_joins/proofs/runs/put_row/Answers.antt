@@ -1,5 +1,4 @@
 -- `k_joins::runs::put_row` meets its contract. Its loop is a `Rowing`. Assumes nothing.
-use Prim.Native.Nat.{◌-◌}
 use native.Mathlib.Omega.{arith}
 use Rattle.k_joins.proofs.Running.{row-start, row_more, row-end, follows-here}
 use borrow.Author.Rules.{rules}

@@ -1,5 +1,4 @@
 -- `k_joins::runs::put_run` meets its contract. Its loop is a `Running`. Assumes nothing.
-use Prim.Native.Nat.{◌-◌}
 use native.Mathlib.Omega.{arith}
 use Rattle.k_joins.proofs.Running.{run-start, run-words, run-place, run_room, run-counted, run_more, run-part, run-stopped, pair_row}
 use borrow.Author.Rules.{rules}

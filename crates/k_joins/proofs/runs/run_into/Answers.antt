@@ -1,5 +1,4 @@
 -- `k_joins::runs::run_into` meets its contract. Its loop is a `Filling` by parts of the run. Assumes nothing.
-use Prim.Native.Nat.{◌-◌}
 use native.Mathlib.Omega.{arith}
 use Rattle.k_tuples.proofs.Filling.{fill_start, fill_end}
 use Rattle.k_joins.proofs.Running.{blank-long, part-set, part-blank, run-taken, run-full}
