@@ -1,7 +1,7 @@
 -- q as the table counts it. Assumes nothing.
 use Prim.Native.Nat.{ℕ, suc, ◌+◌}
-use mathlib.Core.List.{List, [], ◌∷◌, ◌++◌}
-use mathlib.Core.Path.{◌≡◌, refl, sym, ap, ap₂, ◌∙◌}
+use mathlib.Core.List.{List, [], ◌∷◌}
+use mathlib.Core.Path.{◌≡◌, refl, ap, ap₂, ◌∙◌}
 use lib.ListN.{length, length-append}
 use Rattle.cfg.specs.Grammar.{Sym, nonterminal, terminal, Production}
 use Rattle.cfg.specs.Written.{nonterminals, occurrences}

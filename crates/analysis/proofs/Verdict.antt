@@ -1,11 +1,11 @@
 -- Every input has its verdict, and one only. Assumes nothing.
-use Prim.Native.Nat.{ℕ, suc, ◌+◌, ◌*◌, ◌≤◌, ◌<◌}
-use mathlib.Core.Bool.{Bool, true, false, cond, ◌&&◌}
-use mathlib.Core.List.{List, [], ◌∷◌}
+use Prim.Native.Nat.{ℕ, ◌≤◌}
+use mathlib.Core.Bool.{Bool, true, false, ◌&&◌}
+use mathlib.Core.List.{List}
 use mathlib.Core.Path.{◌≡◌, refl, sym, ap, ◌∙◌, subst}
 use lib.Dec.{leb, leb→le, le→leb}
 use lib.ListN.{length}
-use Rattle.cfg.specs.Grammar.{nonterminal, Grammar, Productive, LeftRecursive, Accepted}
+use Rattle.cfg.specs.Grammar.{Grammar, LeftRecursive, Accepted}
 use Rattle.cfg.specs.Reading.{Reading, got as read, refused as unread, ◌then◌}
 use Rattle.cfg.specs.Table.{read_table}
 use Rattle.cfg.specs.Write.{Bytes}
@@ -17,7 +17,7 @@ use Rattle.k_tuples.specs.Work.{Answer, got, refused, ◌>>=◌, ◌>>◌, deman
 use Rattle.k_tuples.proofs.Work.{not-got}
 use Rattle.k_tuples.proofs.Tests.{passed, fails, and_left, and_right, and_both, holds, unpassed}
 use Rattle.analysis.specs.Analysis.{Analysis, work, accepts, analyse, result_needs, scratch_needs}
-use Rattle.analysis.specs.Promises.{SomePasses, EnoughRoom, Between, IsTableOf, AllProductive, EnoughWords, Verdict, AnswersAll, OneAnswer}
+use Rattle.analysis.specs.Promises.{Between, IsTableOf, AllProductive, EnoughWords, Verdict, AnswersAll, OneAnswer}
 use Rattle.analysis.proofs.Kept.{not-refused, answers-right, only-eleven, eleven-exactly}
 use Rattle.analysis.proofs.One.{answers_one}
 

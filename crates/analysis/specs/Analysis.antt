@@ -1,5 +1,5 @@
 -- The analysis, whole: a table's bytes give FIRST and FOLLOW, or the number of a refusal. Assumes nothing.
-use Rattle.std.specs.Prelude.{ℕ, ◌+◌, ◌*◌, Bool, ◌&&◌, List, leb, length}
+use Rattle.std.specs.Prelude.{ℕ, ◌+◌, ◌*◌, ◌&&◌, List, leb, length}
 use Rattle.cfg.specs.Grammar.{Grammar}
 use Rattle.cfg.specs.Reading.{Reading, got as read, refused as unread}
 use Rattle.cfg.specs.Accept.{accept_table}

@@ -1,7 +1,5 @@
 -- Exercises a to l of the rules, and its listing: one table, and one claim about the definitions. Assumes nothing.
 use Rattle.std.specs.Prelude.{ℕ, List, [], ◌∷◌, map, ◌≡◌, refl}
-use Rattle.cfg.specs.Grammar.{nonterminal, terminal, Grammar}
-use Rattle.cfg.specs.Reading.{got as read}
 use Rattle.k_tuple.specs.Wide.{value}
 use Rattle.k_tuple.specs.Strings.{Str, eps, slots, digits_in, width_of, fields, width_field, count_field, slots_field, pack, well_formed, decode}
 use Rattle.k_tuple.specs.Packed.{packed, reads}

@@ -1,6 +1,6 @@
 -- What is promised of the analysis. Each promise is a definition here, and a theorem of that type in proofs/Kept.antt. Assumes nothing.
 use Rattle.std.specs.Prelude.{ℕ, suc, ◌+◌, ◌≤◌, ◌<◌, List, [], ◌∷◌, ◌↔◌, ◌⊎◌, ◌≡◌, length, replicate}
-use Rattle.cfg.specs.Grammar.{Sym, nonterminal, Word, Grammar, Production, Productive, LeftRecursive, Accepted}
+use Rattle.cfg.specs.Grammar.{nonterminal, Word, Grammar, Production, Productive, LeftRecursive, Accepted}
 use Rattle.cfg.specs.Write.{write_table, Bytes, Limits}
 use Rattle.cfg.specs.Refused.{TableRefused}
 use Rattle.k_tuple.specs.Strings.{Str, eps, ones, width_of}
