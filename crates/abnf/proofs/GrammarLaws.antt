@@ -2,23 +2,21 @@
 use Prim.Native.Nat.{ℕ, zero, suc, ◌+◌, ◌*◌, ◌-◌, ◌/◌, ◌%◌, ◌≤◌, ◌<◌}
 use native.Mathlib.Numerals.{add-one}
 use native.Mathlib.Omega.{arith}
-use mathlib.Core.Path.{◌≡◌, refl, sym, ap, ap₂, ◌∙◌}
+use mathlib.Core.Path.{◌≡◌, refl, sym, ap, ◌∙◌}
 use mathlib.Core.List.{List, [], ◌∷◌, ◌++◌, map, append_assoc, append-nil}
-use mathlib.Core.Bool.{Bool, true, false, ◌||◌, ◌&&◌}
-use lib.ListN.{length, get_or, take, drop, set, length-take, length-set, length-append}
-use lib.Seq.{drop-cons, take-suc-set, length-take-le, set_at, take-set-lt, take-add, take-suc, take_all, take_at, drop_at, drop-drop}
-use lib.Dec.{ltb, leb, eqb}
+use mathlib.Core.Bool.{Bool, true, false}
+use lib.ListN.{length, get_or, take, drop, set, length-set, length-append}
+use lib.Seq.{drop-cons, take-suc-set, length-take-le, set_at, take-set-lt, take-suc, take_at, drop_at, drop-drop}
+use lib.Dec.{leb}
 use borrow.Author.Tests.{lt-ltb, le-ltb, le-leb, lt-leb, eq-eqb, ne_eqb}
-use Rattle.cfg.specs.Reading.{pick}
-use Rattle.cfg.specs.Grammar.{Sym, nonterminal, terminal, Production}
+use Rattle.cfg.specs.Grammar.{Sym, Production}
 use Rattle.cfg.specs.Write.{write_number, write_numbers, all_numbers, production_numbers, code_of}
-use Rattle.abnf_tables.specs.Run.{Run, on, refused, ◌then◌}
+use Rattle.abnf_tables.specs.Run.{Run, on}
 use Rattle.abnf_tables.specs.Words.{rank}
 use Rattle.abnf_tables.specs.Tables.{Tables, among}
 use Rattle.abnf.specs.Numbering.{missing, number_of, symbol_of, right, alternatives, empty_of, production_of, productions_of, productions_from}
-use Rattle.abnf.specs.Writes.{FirstMissing, Puts, PutsAll, AllBelow, Pastes, WritesTable}
+use Rattle.abnf.specs.Writes.{FirstMissing, Puts, PutsAll, Pastes, WritesTable}
 use Rattle.abnf.specs.declared.grammar.Put.{Put}
-use Rattle.abnf.specs.declared.grammar.TableAnswer.{TableAnswer}
 use Rattle.abnf.specs.declared.grammar.TableAnswer.TheVariants.{Written, Refused}
 use Rattle.abnf_tables.proofs.WordLaws.{past, drop_past}
 

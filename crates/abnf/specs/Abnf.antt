@@ -4,7 +4,6 @@ use Rattle.cfg.specs.Reading.{pick}
 use Rattle.cfg.specs.Write.{write_table}
 use Rattle.cfg.specs.Grammar.{Grammar}
 use Rattle.abnf_tables.specs.Run.{Run, on, refused, ◌then◌}
-use Rattle.abnf_tables.specs.Tables.{Tables}
 use Rattle.abnf_rules.specs.Machine.{start, scanned}
 use Rattle.abnf.specs.Numbering.{missing, grammar_of}
 use Rattle.abnf.specs.declared.grammar.TableAnswer.{TableAnswer}

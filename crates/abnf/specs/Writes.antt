@@ -1,8 +1,8 @@
 -- What the program's numbers and bytes say. It only connects the program; nobody needs to believe it. Assumes nothing.
-use Rattle.std.specs.Prelude.{ℕ, ◌+◌, ◌≤◌, ◌<◌, List, [], ◌∷◌, ◌++◌, Bool, ◌≡◌, length, take, drop, get_or, ltb, leb}
+use Rattle.std.specs.Prelude.{ℕ, ◌+◌, ◌≤◌, ◌<◌, List, [], ◌++◌, ◌≡◌, length, take, drop, get_or, ltb, leb}
 use Rattle.cfg.specs.Reading.{pick}
 use Rattle.cfg.specs.Write.{all_numbers, write_table}
-use Rattle.cfg.specs.Grammar.{Production, Grammar}
+use Rattle.cfg.specs.Grammar.{Production}
 use Rattle.abnf_tables.specs.Run.{Run, on, refused}
 use Rattle.abnf_tables.specs.Tables.{Tables, tables}
 use Rattle.abnf.specs.Numbering.{missing, productions_from, grammar_of}

@@ -5,7 +5,7 @@ use native.Mathlib.Numerals.{add-one}
 use mathlib.Core.Path.{◌≡◌, refl, sym, ap, ◌∙◌}
 use mathlib.Core.Logic.{◌⊎◌, inl, inr, ◌↔◌}
 use mathlib.Core.List.{List, [], ◌∷◌, ◌++◌, map}
-use mathlib.Core.Bool.{Bool, true, false, not, ◌||◌, ◌&&◌}
+use mathlib.Core.Bool.{Bool, true, false, ◌||◌, ◌&&◌}
 use lib.ListN.{length, get_or, drop, length-append, length-drop, length-map}
 use lib.Seq.{get_or-drop, drop-cons}
 use lib.Dec.{ltb, leb, eqb}
@@ -14,7 +14,7 @@ use Rattle.cfg.specs.Reading.{pick}
 use Rattle.abnf_tables.specs.Run.{Run, on, refused, ◌then◌}
 use Rattle.abnf_tables.specs.Bytes.{blank, letter, name_byte, literal_byte, comment_byte}
 use Rattle.abnf_tables.specs.Words.{word_at, compare, position}
-use Rattle.abnf_tables.specs.Tables.{Tables, tables, none, put, counted, produced, first_element, element, noted, used, among, begun, ruled, defined, listed, literal, group_of, opened, closed, in_group, parted}
+use Rattle.abnf_tables.specs.Tables.{Tables, counted, first_element, element, noted, used, among, ruled, defined, listed, literal, opened, closed, in_group}
 use Rattle.abnf_rules.specs.Machine.{State, breaks, begins, behind, spaced, wanted, equals, empty, longer, inside, whole, fresh, step, finished, scanned, start}
 use Rattle.abnf_rules.specs.declared.machine.Mode.{Mode}
 use Rattle.abnf_rules.specs.declared.machine.Mode.TheVariants.{Blank, Naming, Equals, Want, Name, Quote, After, Spaced}

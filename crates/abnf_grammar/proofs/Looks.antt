@@ -1,25 +1,23 @@
 -- No byte of a text is looked at more than twice, apart from comparing names and literals: the bytes are handed to the automaton one by one, each step
 -- takes of the rest of the text no more than the byte behind a quote, and numbering takes no byte at all. Assumes nothing.
-use Prim.Native.Nat.{ℕ, zero, suc, ◌+◌, ◌-◌, ◌/◌, ◌≤◌, ◌<◌}
+use Prim.Native.Nat.{ℕ, suc, ◌+◌, ◌/◌, ◌≤◌, ◌<◌}
 use native.Mathlib.Omega.{arith}
-use mathlib.Core.Path.{◌≡◌, refl, sym, ap, ◌∙◌}
+use mathlib.Core.Path.{◌≡◌, refl, sym}
 use mathlib.Core.List.{List, [], ◌∷◌, ◌++◌}
-use mathlib.Core.Bool.{Bool, true, false, ◌||◌, ◌&&◌}
-use lib.ListN.{length, get_or}
-use lib.Dec.{ltb, leb, eqb}
+use mathlib.Core.Bool.{Bool, true, false}
+use lib.ListN.{get_or}
+use lib.Dec.{leb, eqb}
 use borrow.Author.Tests.{eqb-true, eq-eqb, ne_eqb}
 use Rattle.cfg.specs.Reading.{pick}
-use Rattle.cfg.specs.Grammar.{Sym, nonterminal, terminal, Production}
 use Rattle.abnf_tables.specs.Run.{Run, on, refused, ◌then◌}
-use Rattle.abnf_tables.specs.Bytes.{letter, name_byte, literal_byte}
-use Rattle.abnf_tables.specs.Words.{position}
-use Rattle.abnf_tables.specs.Tables.{Tables, left_of, code_of, element, used, defined, literal, opened}
-use Rattle.abnf_rules.specs.Machine.{State, to, breaks, begins, spaced, wanted, inside, step, finished, scanned}
+use Rattle.abnf_tables.specs.Bytes.{letter}
+use Rattle.abnf_tables.specs.Tables.{Tables, code_of, element, used, defined, literal, opened}
+use Rattle.abnf_rules.specs.Machine.{State, to, begins, spaced, wanted, inside, step, scanned}
 use Rattle.abnf_rules.specs.declared.machine.Mode.{Mode}
 use Rattle.abnf_rules.specs.declared.machine.Mode.TheVariants.{Blank, Naming, Equals, Want, Name, Quote, After, Spaced}
 use Rattle.abnf_rules.specs.declared.machine.Line.{Line}
 use Rattle.abnf_rules.specs.declared.machine.Line.TheVariants.{Inside, Comment, Return, Ended}
-use Rattle.abnf.specs.Numbering.{number_of, symbol_of, right, alternatives, empty_of, productions_from, grammar_of}
+use Rattle.abnf.specs.Numbering.{number_of, symbol_of, right, alternatives, productions_from, grammar_of}
 use Rattle.abnf_grammar.specs.Looks.{looks, looked, times, Alike, SameBehindQuotes}
 
 -- ---- how often

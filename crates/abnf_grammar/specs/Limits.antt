@@ -2,7 +2,7 @@
 -- which counts at its own first byte. Assumes nothing.
 use Rattle.std.specs.Prelude.{ℕ, zero, suc, ◌+◌, ◌≤◌, ◌<◌, List, map, Bool, true, false, ◌≡◌, ◌⊎◌, length, get_or, leb}
 use Rattle.cfg.specs.Reading.{pick}
-use Rattle.abnf_tables.specs.Run.{Run, on, refused, ◌then◌}
+use Rattle.abnf_tables.specs.Run.{Run, on, ◌then◌}
 use Rattle.abnf_tables.specs.Bytes.{letter, name_byte, literal_byte}
 use Rattle.abnf_tables.specs.Words.{word_at}
 use Rattle.abnf_tables.specs.Tables.{Tables}

@@ -1,5 +1,5 @@
 -- Which bytes of a text its reading looks at, apart from comparing names and literals: each in its turn, and the one behind a quote. Assumes nothing.
-use Rattle.std.specs.Prelude.{ℕ, ◌+◌, List, [], ◌∷◌, ◌++◌, Bool, true, false, ◌≡◌, get_or, eqb}
+use Rattle.std.specs.Prelude.{ℕ, ◌+◌, List, [], ◌∷◌, ◌++◌, Bool, ◌≡◌, get_or, eqb}
 use Rattle.cfg.specs.Reading.{pick}
 use Rattle.abnf_tables.specs.Words.{position, rank}
 

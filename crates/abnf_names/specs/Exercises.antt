@@ -6,7 +6,6 @@ use Rattle.abnf_tables.specs.Words.{part as part_is}
 use Rattle.abnf_tables.specs.Tables.{among, first_element, element, noted, listed, used, ruled, defined, literal, opened, closed, holder, in_hand}
 use Rattle.abnf_rules.specs.Machine.{scanned, step, inside, whole, fresh, finished, empty, equals, wanted, spaced, behind, begins}
 use Rattle.abnf_names.specs.Parts.{part, no_part, word_part, name_numbered, state_after, group_part, nonterminal_in, terminal_in, nonterminal_part, terminal_part}
-use Rattle.abnf_names.specs.declared.TextPart.{TextPart}
 
 -- `s = ["a" ["b"] / s "A"]` CRLF
 abbrev pub example : List ℕ

@@ -3,7 +3,7 @@ use Prim.Native.Nat.{ℕ, zero, suc, ◌+◌, ◌<◌}
 use native.Mathlib.Omega.{arith}
 use mathlib.Core.Path.{◌≡◌, refl, sym, ap, ◌∙◌, subst}
 use mathlib.Core.Bool.{Bool, true, false, ◌&&◌}
-use mathlib.Core.List.{List, ◌∷◌, map}
+use mathlib.Core.List.{List, [], ◌∷◌, map}
 use lib.Dec.{leb, leb→le, le→leb}
 use lib.ListN.{length, get_or, length-map, get_or-map}
 use lib.Seq.{ext_get_or}
@@ -206,6 +206,7 @@ decisions-from limit c table result scratch ms e = by (leb 1 limit && leb limit 
 each-got : (F : ℕ → Answer Decided) (i n : ℕ) (ds : List Decided) → Each (λ (m : Answer Decided) (d : Decided). m ≡ got d) (each_from F i n) ds
     → (length ds ≡ n) × ((j : ℕ) (d : Decided) → j < n → F (i + j) ≡ got (get_or ds j d))
 each-got F i zero ds each_none = (refl, λ j d h. absurd (omega arith))
+each-got F i (suc n) [] e = elim e [ ]
 each-got F i (suc n) (e ∷ ds) (each_more q more) = let (l, all) = each-got F (suc i) n ds more in (ap suc l, at all)
   where
     at : ((j : ℕ) (d : Decided) → j < n → F (suc i + j) ≡ got (get_or ds j d)) → (j : ℕ) (d : Decided) → j < suc n → F (i + j) ≡ got (get_or (e ∷ ds) j d)

@@ -19,7 +19,7 @@ use Rattle.k_tuples.specs.Sets.{◌∈◌}
 use Rattle.k_tuples.proofs.Sorted.{cases}
 use Rattle.k_tuples.proofs.Tests.{unpassed}
 use Rattle.first_theory.proofs.WordSets.{str-inj}
-use Rattle.decision_theory.specs.Needed.{Rising, own, Decided, RightFor, right-one, right-several}
+use Rattle.decision_theory.specs.Needed.{Rising, Decided, RightFor, right-one, right-several}
 use Rattle.decision_theory.specs.Automaton.{Entry, entries_of, behind, letters, accepts, below, nodes, Edge, State, edges_from, states_from, state_at, automaton, along}
 use Rattle.decision_theory.specs.Marking.{Row, row_at, accepted, accepted_here, for_each, list_from, entry_row, automaton_rows, rows_from, automata_rows, wanted_rows, wanted_from, mark_rows}
 use Rattle.decision_theory.proofs.Tree.{entry, OneEach, behind-none, along-none, among, letters-rising, accepts-means, state-is, child-at, root-inside, root_is}

@@ -17,7 +17,7 @@ use Rattle.cfg.specs.Written.{symbol_of}
 use Rattle.first_theory.specs.First.{Part, run, single, put, parts}
 use Rattle.first.specs.declared.Setup.{Setup}
 use Rattle.first.specs.Codes.{half, run_length, part_length, part_of, AllSlots}
-use Rattle.first.specs.Steps.{Symbols, PartIn}
+use Rattle.first.specs.Steps.{sizes, Symbols, PartIn}
 
 -- ---- the first part, and those behind it
 
@@ -105,7 +105,7 @@ map-drop (suc m) (c ∷ cs) = map-drop m cs
 
 -- a right side from place j on
 pub symbols-from : (u : Setup) (right : List ℕ) (j : ℕ) → Symbols u (map symbol_of right) → Symbols u (map symbol_of (drop j right))
-symbols-from u right j r = rw (map-drop j right) (range-drop _ j (map symbol_of right) r)
+symbols-from u right j r = rw (map-drop j right) (range-drop (sizes u) j (map symbol_of right) r)
 
 abbrev AllPartsIn : Setup → List Part → Type 0
 AllPartsIn u [] = Unit {0}

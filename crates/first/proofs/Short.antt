@@ -1,6 +1,6 @@
 -- Joins that change nothing: a part joined to {ε} is the part, and a product whose members are all complete stays as it is. Assumes nothing.
 use mathlib.Core.Path.{◌≡◌, refl, sym, ap, ◌∙◌}
-use mathlib.Core.Bool.{Bool, true, true≢false}
+use mathlib.Core.Bool.{Bool, true, false, true≢false}
 use mathlib.Core.List.Memᴰ.{eq_of_singleton as only}
 use mathlib.Core.List.Memᴰ.{head as here}
 use mathlib.Core.List.{List, [], ◌∷◌}
@@ -28,6 +28,7 @@ complete-stays k a b s all = sym (join_sets-only k a b a s (λ z. (λ m. stays m
 -- a test that says yes
 is_true : (b : Bool) → T b → b ≡ true
 is_true true t = refl
+is_true false t = elim t [ ]
 
 -- So no part behind it changes a product that has room.
 pub parts-idle : (c k : ℕ) (X : State) (a : List Str) → Sorted a → within c a ≡ got a → all_complete k a ≡ true → (ps : List Part) → join_parts c k X a ps ≡ got a
