@@ -6,7 +6,7 @@ use mathlib.Core.List.{List, [], ◌∷◌, ◌++◌, append-nil}
 use borrow.Author.Tests.{le-leb, lt-ltb}
 use lib.ListN.{length, take, drop, set, replicate, length-append, length-drop, length-replicate, drop_of_length-le}
 use lib.Seq.{length-take-le, set-append_left, take_at}
-use Rattle.k_tuple.specs.Strings.{well_formed, slots, ones}
+use Rattle.k_tuple.specs.Strings.{well_formed, ones}
 use Rattle.k_tuple.specs.Packed.{packed}
 use Rattle.k_tuple.specs.declared.Terminals.{Terminals}
 use Rattle.k_tuples.specs.States.{State, set_of}
