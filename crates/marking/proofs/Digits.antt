@@ -1,10 +1,10 @@
 -- A bit of a word that is or-ed with a power of two; and so what setting a mark changes. Assumes nothing.
 use Prim.Native.Nat.{ℕ, zero, suc, ◌+◌, ◌-◌, ◌*◌, ◌/◌, ◌%◌, ◌^◌, ◌≤◌, ◌<◌, max}
-use native.Mathlib.Nat.{max-zero, le-max_right, max-le, mod-lt, zero-lt-suc, mul-one, one-mul, pow-suc, pow-zero, div-eq_of_lt, zero-div}
+use native.Mathlib.Nat.{max-zero, le-max_right, max-le, one-mul, pow-suc, div-eq_of_lt, zero-div}
 use native.Mathlib.Omega.{arith}
 use native.Mathlib.Decide.{dec_lt, ℕ_discrete}
-use mathlib.Core.Path.{◌≡◌, refl, sym, ap, ◌∙◌, subst}
-use mathlib.Core.Bool.{true, false}
+use mathlib.Core.Path.{◌≡◌, refl, sym, ap, ◌∙◌}
+use mathlib.Core.Bool.{false}
 use mathlib.Core.List.{List}
 use lib.Bits.{bit_or, or_step, or_shr}
 use lib.Dec.{eqb}

@@ -1,5 +1,5 @@
 -- The call's ways out: what was found at all levels is the mark that the rules give, and the outcome is that of the definition. Assumes nothing.
-use Prim.Native.Nat.{ℕ, ◌+◌, ◌*◌, ◌/◌, ◌≤◌, ◌<◌}
+use Prim.Native.Nat.{ℕ, ◌*◌, ◌/◌, ◌≤◌, ◌<◌}
 use native.Mathlib.Omega.{arith}
 use native.Mathlib.Decide.{dec_lt}
 use mathlib.Core.Path.{◌≡◌, refl, sym, ap, ◌∙◌, subst}
@@ -10,7 +10,7 @@ use borrow.Author.Tests.{ltb-true, lt-ltb, le-ltb}
 use lib.Dec.{ltb}
 use lib.ListN.{length, get_or, drop}
 use Rattle.cfg.specs.Grammar.{Word, Grammar}
-use Rattle.k_tuple.specs.Strings.{Str, slots, length_of, pack, width_of}
+use Rattle.k_tuple.specs.Strings.{slots, length_of, pack}
 use Rattle.k_tuple.specs.declared.Terminals.{Terminals}
 use Rattle.k_tuple.specs.Packed.{packed}
 use Rattle.k_tuple.specs.Order.{◌≺◌}
@@ -21,10 +21,10 @@ use Rattle.k_tuples.proofs.Work.{not-got, got-inj}
 use Rattle.first_theory.specs.Compute.{str}
 use Rattle.analysis.specs.Analysis.{result_needs, scratch_needs}
 use Rattle.engine.specs.Call.{wiped}
-use Rattle.engine.proofs.Wiping.{wiped-beyond, wiped-again}
+use Rattle.engine.proofs.Wiping.{wiped-again}
 use Rattle.decision_theory.specs.Needed.{Decided}
 use Rattle.decision_theory.specs.Automaton.{all_decided, LowestRefused}
-use Rattle.decision_theory.specs.Marking.{Row, Wanted, Bad, FirstBad, FirstMissing, Marked, all-given, first-bad, first-missing, Mark as Marking, accepted, bad-row, missing, mark, CallMarked, mark-refused, one-refused, marked-as}
+use Rattle.decision_theory.specs.Marking.{Row, Wanted, Bad, FirstMissing, Marked, all-given, first-bad, first-missing, Mark as Marking, bad-row, missing, mark, CallMarked, mark-refused, one-refused, marked-as}
 use Rattle.decision_theory.proofs.Automaton.{lowest-refused}
 use Rattle.decision_theory.proofs.Call.{one-grammar}
 use Rattle.decision_theory.proofs.Marking.{marked-one}
@@ -43,7 +43,7 @@ use Rattle.marking.specs.declared.Found.{Found}
 use Rattle.marking.specs.Lines.{level_of}
 use Rattle.marking.specs.Rows.{rows_in}
 use Rattle.marking.specs.Call.{width_in, record_of, Promised}
-use Rattle.marking.specs.Levels.{row_of, missed_in, FirstOf, Before, Finding, AllFound, told_of, RowsMarked}
+use Rattle.marking.specs.Levels.{missed_in, FirstOf, Before, Finding, AllFound, told_of, RowsMarked}
 use Rattle.marking.proofs.Meaning.{rows-many, row_cut}
 use Rattle.marking.proofs.Standing.{wiped-stored}
 

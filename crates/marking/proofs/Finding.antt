@@ -3,9 +3,9 @@ use Prim.Native.Nat.{ℕ, ◌+◌, ◌*◌, ◌/◌, ◌≤◌, ◌<◌}
 use native.Mathlib.Omega.{arith}
 use native.Mathlib.Decide.{dec_lt}
 use mathlib.Core.Path.{◌≡◌, refl, sym, ap, ◌∙◌, subst}
-use mathlib.Core.Logic.{◌⊎◌, inl, inr, ⊎_elim}
+use mathlib.Core.Logic.{inl, inr, ⊎_elim}
 use mathlib.Core.List.{List}
-use lib.ListN.{length, get_or}
+use lib.ListN.{length}
 use Rattle.cfg.specs.Grammar.{Grammar}
 use Rattle.k_tuple.specs.Strings.{width_of}
 use Rattle.k_tuples.specs.Sets.{◌∈◌}
@@ -15,7 +15,7 @@ use Rattle.decision.specs.Onward.{Known, KJoined}
 use Rattle.decision_theory.specs.Marking.{Row, Wanted, row_at, Bad}
 use Rattle.marking.specs.Lines.{level_of}
 use Rattle.marking.specs.Rows.{rows_in}
-use Rattle.marking.specs.Levels.{missed_in, Stands, FirstOf, LevelDone, AtLevel, Before, MadeStand, Turn, Finding, AllFound}
+use Rattle.marking.specs.Levels.{Stands, FirstOf, LevelDone, AtLevel, Before, MadeStand, Turn, Finding, AllFound}
 use Rattle.marking.specs.declared.Found.{Found}
 use Rattle.marking.specs.declared.lack.Missed.{Missed}
 use Rattle.marking.proofs.Standing.{zero-stands, level-stands}

@@ -1,18 +1,15 @@
 -- What is promised of the call is kept. Assumes nothing.
-use Prim.Native.Nat.{ℕ, ◌<◌}
+use Prim.Native.Nat.{ℕ}
 use native.Mathlib.Omega.{arith}
-use mathlib.Core.Path.{◌≡◌, refl, sym, ap, ◌∙◌, subst}
-use mathlib.Core.Logic.{◌↔◌, ⊎_elim}
+use mathlib.Core.Path.{◌≡◌, sym, ap, ◌∙◌, subst}
+use mathlib.Core.Logic.{⊎_elim}
 use mathlib.Core.List.{List}
 use lib.ListN.{length}
 use Rattle.cfg.specs.Grammar.{Grammar}
-use Rattle.k_tuple.specs.Strings.{Str}
-use Rattle.k_tuple.specs.Packed.{packed}
-use Rattle.k_tuples.specs.Sets.{◌∈◌}
 use Rattle.k_tuples.specs.Work.{Answer, got, refused}
-use Rattle.decision_theory.specs.Needed.{Decided, Reads, decisions, needed_ks}
-use Rattle.decision_theory.specs.Automaton.{AllAre, LowestRefused}
-use Rattle.decision_theory.specs.Marking.{Row, row_at, AllGiven, Bad, FirstBad, FirstMissing, Marked, all-given, first-bad, first-missing, Mark as Marking, accepted, bad-row, missing, wanted_from, mark_rows, mark, CallMarked, mark-refused, one-refused, marked-as, automata_rows}
+use Rattle.decision_theory.specs.Needed.{Decided, Reads, needed_ks}
+use Rattle.decision_theory.specs.Automaton.{AllAre}
+use Rattle.decision_theory.specs.Marking.{Row, AllGiven, FirstBad, FirstMissing, Marked, all-given, first-bad, first-missing, Mark as Marking, mark, CallMarked, mark-refused, one-refused, marked-as, automata_rows}
 use Rattle.decision_theory.proofs.Automaton.{grammar-of, rights}
 use Rattle.decision_theory.proofs.Marking.{accepted-exactly}
 use Rattle.decision_theory.proofs.Listed.{automata-accepted}

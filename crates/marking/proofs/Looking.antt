@@ -1,19 +1,17 @@
 -- A row looked up and marked, and then all rows of a level: what the marks say, and the first bad row. Assumes nothing.
-use Prim.Native.Nat.{ℕ, zero, suc, ◌+◌, ◌*◌, ◌≤◌, ◌<◌}
+use Prim.Native.Nat.{ℕ, ◌+◌, ◌*◌, ◌≤◌, ◌<◌}
 use native.Mathlib.Omega.{arith}
 use native.Mathlib.Decide.{dec_lt, ℕ_discrete}
 use mathlib.Core.Path.{◌≡◌, refl, sym, ap, ◌∙◌, subst}
-use mathlib.Core.Bool.{Bool, true, false, cond, true≢false, false≢true}
-use mathlib.Core.Logic.{◌⊎◌, inl, inr, ⊎_elim, ◌↔◌}
+use mathlib.Core.Bool.{Bool, true, false, true≢false, false≢true}
+use mathlib.Core.Logic.{inl, inr, ⊎_elim, ◌↔◌}
 use mathlib.Core.List.{List}
 use borrow.Author.Tests.{lt-ltb, le-ltb}
 use lib.ListN.{length, get_or, replicate, length-replicate}
-use Rattle.k_tuple.specs.declared.Terminals.{Terminals}
-use Rattle.k_tuple.specs.Packed.{number_of}
 use Rattle.k_tuples.specs.Sets.{◌∈◌}
 use Rattle.k_tuples.specs.Blocks.{part_at}
 use Rattle.k_tuples.proofs.Blocks.{part_length, in-sets}
-use Rattle.k_tuples.proofs.Held.{holds-set, holds-decode}
+use Rattle.k_tuples.proofs.Held.{holds-set}
 use Rattle.k_tuples.proofs.Words.{set_room}
 use Rattle.blocks.specs.Stores.{Sets}
 use Rattle.decision.specs.declared.Layout.{Layout}

@@ -1,23 +1,23 @@
 -- Rows and strings as numbers are rows and strings: what is found at a level is what the rules ask of it. Assumes nothing.
-use Prim.Native.Nat.{ℕ, suc, ◌+◌, ◌*◌, ◌/◌, ◌≤◌, ◌<◌}
+use Prim.Native.Nat.{ℕ, ◌+◌, ◌*◌, ◌/◌, ◌≤◌, ◌<◌}
 use native.Mathlib.Omega.{arith}
 use mathlib.Core.Path.{◌≡◌, refl, sym, ap, ap₂, ◌∙◌, subst}
 use mathlib.Core.Bool.{Bool, true, false, cond, true≢false}
-use mathlib.Core.Logic.{◌⊎◌, inl, inr, ⊎_elim, ◌↔◌}
+use mathlib.Core.Logic.{◌⊎◌, inl, inr, ⊎_elim}
 use mathlib.Core.List.Memᴰ
 use mathlib.Core.List.{List, [], ◌∷◌, map}
 use borrow.Author.Tests.{eqb-true, eq-eqb, le-leb, lt-leb, ltb-true}
-use lib.Dec.{eqb, leb}
+use lib.Dec.{eqb}
 use lib.ListN.{length, get_or}
 use Rattle.cfg.specs.Grammar.{Grammar}
 use Rattle.k_tuple.specs.Strings.{Str, eps, slots, length_of, Decoded, good, bad, well_formed, pack, decode}
-use Rattle.k_tuple.specs.Order.{cmp, ◌≺◌}
+use Rattle.k_tuple.specs.Order.{◌≺◌}
 use Rattle.k_tuple.specs.Packed.{packed, number_of, less_of}
 use Rattle.k_tuple.specs.Wide.{value}
 use Rattle.k_tuple.proofs.Words.{number-words}
 use Rattle.k_tuple.proofs.Round.{decode-good, decode-pack}
 use Rattle.k_tuples.specs.Sets.{◌∈◌, is_lt}
-use Rattle.k_tuples.specs.Held.{Fits, Holds}
+use Rattle.k_tuples.specs.Held.{Holds}
 use Rattle.k_tuples.specs.Blocks.{part_at}
 use Rattle.k_tuples.proofs.Blocks.{in-sets, part-holds}
 use Rattle.k_tuples.proofs.Bridge.{less-packed}
@@ -25,16 +25,15 @@ use Rattle.k_tuples.proofs.Held.{holds-decode}
 use Rattle.decision.specs.declared.Layout.{Layout}
 use Rattle.decision.specs.Own.{left_at}
 use Rattle.decision.specs.Steps.{held, production_set}
-use Rattle.decision_theory.specs.Needed.{each_from}
 use Rattle.decision_theory.specs.Marking.{Row, Wanted, row_at, Bad}
 use Rattle.decision_theory.proofs.Call.{each-length, each_at}
 use Rattle.decision_theory.proofs.Lists.{at_place, place_of}
 use Rattle.decision_theory.proofs.Marking.{row_same}
 use Rattle.marking.specs.Bits.{is_marked}
-use Rattle.marking.specs.Lines.{numbers_in, numbers_at, level_of, Line, line_at, line_for, mark_of, Right, Among, BadLine, MarksOf, Checked, FreeIn, Free, Lacked}
+use Rattle.marking.specs.Lines.{numbers_in, numbers_at, level_of, Line, line_at, line_for, mark_of, Right, Among, BadLine, MarksOf, Checked, Free, Lacked}
 use Rattle.marking.specs.declared.lack.Missed.{Missed}
 use Rattle.marking.specs.Rows.{string_in, row_in, rows_in}
-use Rattle.marking.specs.Levels.{row_of, missed_in, Stands, LevelChecked, FirstOf, LevelMissed, LevelDone, AtLevel}
+use Rattle.marking.specs.Levels.{row_of, missed_in, Stands, LevelChecked, LevelMissed, AtLevel}
 use Rattle.marking.specs.declared.Found.{Found}
 use Rattle.marking.proofs.Looking.{own_block, level-is}
 

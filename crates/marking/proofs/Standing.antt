@@ -1,36 +1,31 @@
 -- The sets of a level stand in the result: level 0 where the result is wiped, the others by what was decided. Assumes nothing.
 use Prim.Native.Nat.{ℕ, ◌+◌, ◌*◌, ◌≤◌, ◌<◌}
 use native.Mathlib.Omega.{arith}
-use native.Mathlib.Decide.{dec_lt}
 use mathlib.Core.Path.{◌≡◌, refl, sym, ap, ◌∙◌, subst}
-use mathlib.Core.Bool.{Bool, true, false}
 use mathlib.Core.Logic.{◌↔◌}
 use mathlib.Core.List.Memᴰ
 use mathlib.Core.List.Memᴰ.{not-nil}
-use mathlib.Core.List.{List, [], map}
+use mathlib.Core.List.{List, []}
 use lib.ListN.{length, get_or, drop, replicate, length-replicate, get_or-replicate}
 use Rattle.cfg.specs.Grammar.{Grammar, Accepted}
 use Rattle.k_tuple.specs.Strings.{Str, width_of}
 use Rattle.k_tuples.specs.Sets.{◌∈◌}
 use Rattle.k_tuples.specs.States.{State, set_of}
-use Rattle.k_tuples.specs.Work.{Answer, got}
 use Rattle.k_tuples.specs.Blocks.{IsStored, sets_in}
 use Rattle.k_tuples.proofs.Blocks.{zeros-stored, stored-sets, is-stored}
 use Rattle.analysis.specs.Promises.{IsSetOf}
-use Rattle.first_theory.specs.Compute.{str}
 use Rattle.engine.specs.Call.{wiped}
 use Rattle.decision.specs.declared.Layout.{Layout}
 use Rattle.decision.specs.Own.{left_at}
 use Rattle.decision.specs.Steps.{held, production_set, grammar_of, Given}
-use Rattle.decision.specs.Onward.{Known, choices_in, JoinedFor, KJoined}
+use Rattle.decision.specs.Onward.{Known, choices_in, JoinedFor}
 use Rattle.decision.proofs.Answering.{table-ok}
-use Rattle.decision_theory.specs.Needed.{Of, Ahead, OneProduction, Needs, needs-none, smallest, Choice, ChoiceIs, Decided, RightFor, right-one, right-several, own, decide, needed_k}
+use Rattle.decision_theory.specs.Needed.{Of, Ahead, OneProduction, Needs, needs-none, smallest, Choice, ChoiceIs, Decided, RightFor, right-one, right-several, own}
 use Rattle.decision_theory.specs.Marking.{Row, Wanted}
 use Rattle.decision_theory.proofs.Kept.{needed-right}
 use Rattle.decision_theory.proofs.Needed.{own-means, choice-of, decided-right, needs-one}
-use Rattle.marking.specs.Lines.{Stand, level_of}
+use Rattle.marking.specs.Lines.{Stand}
 use Rattle.marking.specs.Levels.{row_of, Stands}
-use Rattle.marking.proofs.Looking.{level-is}
 
 -- nothing has level 0 that needs a k
 needs-zero : (g : Grammar) (A : ℕ) (k : ℕ) → k ≡ 0 → Needs g A k → OneProduction g A

@@ -1,14 +1,12 @@
 -- Rows that are written in words are read as they were. Assumes nothing.
-use Prim.Native.Nat.{ℕ, zero, suc, ◌+◌, ◌*◌, ◌/◌, ◌≤◌, ◌<◌}
+use Prim.Native.Nat.{ℕ, zero, suc, ◌+◌, ◌*◌, ◌<◌}
 use native.Mathlib.Omega.{arith}
 use mathlib.Core.Path.{◌≡◌, refl, sym, ap, ◌∙◌}
 use mathlib.Core.Bool.{true}
-use mathlib.Core.List.Memᴰ.{head as here}
-use mathlib.Core.List.Memᴰ.{tail as there}
 use mathlib.Core.List.{List, [], ◌∷◌}
 use lib.ListN.{length, get_or}
 use lib.Seq.{ext_get_or}
-use Rattle.k_tuple.specs.Strings.{Str, eps, well_formed, pack, decode}
+use Rattle.k_tuple.specs.Strings.{eps, well_formed, pack, decode}
 use Rattle.k_tuple.specs.Wide.{value}
 use Rattle.k_tuple.specs.Packed.{packed}
 use Rattle.k_tuple.proofs.Words.{number-words}

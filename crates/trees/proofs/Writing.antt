@@ -295,7 +295,7 @@ pub record Run (before now : List ℕ) (at place : ℕ) (goal rest : List ℕ) :
   pub same : length now ≡ length before
 
 pub run-start : (b : List ℕ) (at : ℕ) (goal : List ℕ) → Run b b at at goal goal
-run-start b at goal = record { come = refl; stop = refl; same = refl }
+run-start b at _ = record { come = refl; stop = refl; same = refl }
 
 module _ (b now : List ℕ) (at place : ℕ) (goal rest : List ℕ) (g : Run b now at place goal rest) where
   pub run_step : (xs more after : List ℕ) (next : ℕ) → rest ≡ xs ++ more → Puts now after place next xs → Run b after at next goal more

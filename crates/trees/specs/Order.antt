@@ -1,5 +1,5 @@
 -- The strings in dictionary order, first terminal first, by their numbers. Assumes nothing.
-use Rattle.std.specs.Prelude.{ℕ, zero, suc, ◌≤◌, ◌<◌, ◌≡◌, Bool, true, false, cond, ◌↔◌, List, [], ◌∷◌, eqb, ltb, length, get_or}
+use Rattle.std.specs.Prelude.{ℕ, ◌≤◌, ◌<◌, ◌≡◌, Bool, true, false, cond, ◌↔◌, List, [], ◌∷◌, eqb, ltb, length, get_or}
 use Rattle.cfg.specs.Grammar.{Word}
 use Rattle.k_tuples.specs.Sets.{◌∈◌}
 use Rattle.trees.specs.Listed.{word_at}
