@@ -7,7 +7,7 @@ use mathlib.Core.List.{List, ◌++◌, map}
 use lib.ListN.{length, drop}
 use Rattle.k_tuples.specs.Work.{Answer, got, refused}
 use Rattle.decision_theory.specs.Needed.{Decided, decisions, needed_ks}
-use Rattle.decision_theory.specs.Automaton.{automaton, automata_bytes, AllAre, LowestRefused, AllSmall, automata, AutomataAnswered, call-refused, one-refused, too-many-states, few_bytes, written}
+use Rattle.decision_theory.specs.Automaton.{automaton, automata_bytes, AllAre, AllSmall, automata, AutomataAnswered, call-refused, one-refused, too-many-states, few_bytes, written}
 use Rattle.decision_theory.proofs.Kept.{automata-all, automata-only, automata-right}
 use Rattle.decision.specs.Call.{words_after}
 use Rattle.decision.proofs.Further.{whole-between, one-between}
