@@ -3,14 +3,13 @@ use Prim.Native.Nat.{ℕ, ◌+◌, ◌*◌, ◌≤◌, ◌<◌}
 use native.Mathlib.Nat.{mul-pos}
 use native.Mathlib.Omega.{arith}
 use mathlib.Core.Path.{◌≡◌, refl, sym, ap, ◌∙◌, subst}
-use mathlib.Core.Bool.{true}
 use mathlib.Core.List.{List, [], ◌++◌}
 use borrow.Author.Tests.{lt-ltb, le-ltb}
 use lib.ListN.{length}
 use Rattle.cfg.specs.Grammar.{Grammar}
 use Rattle.cfg.specs.Write.{Bytes}
 use Rattle.cfg.proofs.Exactly.{refusal-rows}
-use Rattle.k_tuples.specs.Work.{Answer, got, refused}
+use Rattle.k_tuples.specs.Work.{Answer, refused}
 use Rattle.analysis.specs.Analysis.{Analysis, analyse}
 use Rattle.analysis.specs.Promises.{EnoughWords, Verdict}
 use Rattle.analysis.proofs.Verdict.{answers-all, one_answer}

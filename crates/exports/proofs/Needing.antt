@@ -7,9 +7,8 @@ use borrow.Author.Tests.{lt-ltb, le-ltb}
 use lib.ListN.{length, take, drop, length-append, length-drop}
 use lib.Seq.{drop-drop, drop_at, length-take-le, take-length, drop-length}
 use Rattle.decision.specs.declared.Needed.{Needed}
-use Rattle.decision.specs.Call.{record_of, Promised}
+use Rattle.decision.specs.Call.{Promised}
 use Rattle.decision.proofs.Going.{lists-long}
-use Rattle.decision_theory.specs.Needed.{needed_ks}
 use Rattle.exports.specs.Told.{fronted}
 use Rattle.exports.specs.Needed.{needed_words, record_for, PutAt, PutRecord, NeededCalled}
 

@@ -5,7 +5,7 @@ use mathlib.Core.Bool.{Bool, true, false, cond, ◌&&◌}
 use mathlib.Core.List.{List, [], ◌∷◌, ◌++◌}
 use native.Mathlib.Omega.{arith}
 use borrow.Author.Tests.{lt-ltb, le-ltb, lt-leb, le-leb, leb-true}
-use lib.Dec.{leb, ltb}
+use lib.Dec.{leb}
 use lib.ListN.{length, get_or, take, drop}
 use lib.Seq.{take-length}
 use Rattle.k_tuple.specs.Paper.{Paper, gives, number_of, values_of}
@@ -14,7 +14,7 @@ use Rattle.k_tuple.specs.declared.StringAnswer as S
 use Rattle.k_tuple.specs.declared.Unpacked.{Unpacked}
 use Rattle.engine.specs.Ask.{there_is, kind_start, set_part}
 use Rattle.exports.specs.declared.Said.{Said}
-use Rattle.exports.specs.Told.{too_few, fronted, Wrote, Told, Left, UnpackedTo, unpacked_words, part_of}
+use Rattle.exports.specs.Told.{too_few, Wrote, Told, Left, UnpackedTo, unpacked_words, part_of}
 
 -- ---- words too few: 10, or a refusal that comes before it
 

@@ -1,6 +1,6 @@
 -- What the functions for C leave that read a register's rules: a refusal by its number, the table in lent bytes, and numbers in lent words. Assumes nothing.
 use Rattle.std.specs.Prelude.{ℕ, ◌-◌, ◌≡◌, cond, List, [], ◌∷◌, length}
-use Rattle.abnf_tables.specs.Run.{Run, on, refused}
+use Rattle.abnf_tables.specs.Run.{Run}
 use Rattle.abnf.specs.Abnf.{table_of, answer_of, bytes_after}
 use Rattle.abnf.specs.declared.grammar.TableAnswer.{TableAnswer}
 use Rattle.abnf.specs.declared.grammar.TableAnswer.TheVariants.{Written, Refused}

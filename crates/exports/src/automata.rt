@@ -7,8 +7,7 @@ use lookahead::automata;
 
 // The automata of a table's nonterminals in turn, in lent bytes, up to a limit of k and with room for c members in each set. The answer takes one word: how
 // many bytes are written. Where there is none, the call is asked with nothing lent, which it refuses by 10 or what comes before it, and touches nothing.
-#[unsafe(no_mangle)]
-pub extern "C" fn jomankitu_automata(
+pub fn jomankitu_automata(
     limit: u64,
     c: u64,
     table: &[u8],

@@ -71,8 +71,7 @@ fn record_words(a: Lookahead) -> [u64; 16]
 
 // FIRST and FOLLOW of a table at k, with room for c members in each set. The answer takes sixteen words; where they are too few the engine is asked
 // with no words at all, which it refuses by 10 or what comes before it, and touches nothing.
-#[unsafe(no_mangle)]
-pub extern "C" fn jomankitu_lookahead_sets(
+pub fn jomankitu_lookahead_sets(
     k: u64,
     c: u64,
     table: &[u8],
@@ -112,8 +111,7 @@ fn part_of(
 }
 
 // Where in a result of so many words the part of a set begins, and its length, in two words; 0 and 0 where there is no such set.
-#[unsafe(no_mangle)]
-pub extern "C" fn jomankitu_set_of(
+pub fn jomankitu_set_of(
     len: usize,
     kind: usize,
     number: usize,

@@ -8,8 +8,7 @@ use lookahead::mark;
 // Marks a prediction table, its rows of four words each: a nonterminal, a string's two words, a production. The answer takes four words: the first bad row, and
 // the nonterminal and the two words of the first missing string. Where they are not lent, the call is asked with no words to work in, which it refuses by 10
 // or what comes before it, and touches nothing.
-#[unsafe(no_mangle)]
-pub extern "C" fn jomankitu_mark(
+pub fn jomankitu_mark(
     limit: u64,
     c: u64,
     table: &[u8],

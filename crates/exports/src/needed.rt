@@ -28,8 +28,7 @@ fn put_record(answer: &mut [u64], a: Needed)
 }
 
 // The k that each nonterminal of a table needs, up to a limit, with room for c members in each set. The answer takes 258 words.
-#[unsafe(no_mangle)]
-pub extern "C" fn jomankitu_needed_k(
+pub fn jomankitu_needed_k(
     limit: u64,
     c: u64,
     table: &[u8],

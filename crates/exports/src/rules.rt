@@ -45,8 +45,7 @@ fn unlent(text: &[u8]) -> u64
 }
 
 // The table of a text's rules, in lent bytes. The answer takes two words: how many bytes are written, and the place of a refusal.
-#[unsafe(no_mangle)]
-pub extern "C" fn jomankitu_read_abnf(text: &[u8], table: &mut [u8], answer: &mut [u64]) -> u64
+pub fn jomankitu_read_abnf(text: &[u8], table: &mut [u8], answer: &mut [u64]) -> u64
     ensures { ReadFor text.now table.old answer.old result table.new
         answer.new }
 {
@@ -68,8 +67,7 @@ fn part_words(p: TextPart) -> [u64; 2]
 }
 
 // Where in a text the name of a nonterminal is, or "[" of its group, and its length, in two words; 0 and 0 where there is none.
-#[unsafe(no_mangle)]
-pub extern "C" fn jomankitu_nonterminal_part(text: &[u8], number: u64, out: &mut [u64]) -> u64
+pub fn jomankitu_nonterminal_part(text: &[u8], number: u64, out: &mut [u64]) -> u64
     ensures { Told 2 (gives (part_words (nonterminal_part text.now number))) out.old result
         out.new }
 {
@@ -82,8 +80,7 @@ pub extern "C" fn jomankitu_nonterminal_part(text: &[u8], number: u64, out: &mut
 }
 
 // Where in a text the literal of a terminal is, without its quotes, and its length, in two words; 0 and 0 where there is none.
-#[unsafe(no_mangle)]
-pub extern "C" fn jomankitu_terminal_part(text: &[u8], number: u64, out: &mut [u64]) -> u64
+pub fn jomankitu_terminal_part(text: &[u8], number: u64, out: &mut [u64]) -> u64
     ensures { Told 2 (gives (part_words (terminal_part text.now number))) out.old result
         out.new }
 {

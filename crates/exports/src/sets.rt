@@ -58,14 +58,7 @@ fn set_number(a: SetAnswer) -> u64
 }
 
 // Makes out the union of two sets. Whether that added to the first is told in one word: 1 or 0.
-#[unsafe(no_mangle)]
-pub extern "C" fn jomankitu_union(
-    k: u64,
-    a: &[u64],
-    b: &[u64],
-    out: &mut [u64],
-    told: &mut [u64],
-) -> u64
+pub fn jomankitu_union(k: u64, a: &[u64], b: &[u64], out: &mut [u64], told: &mut [u64]) -> u64
     ensures { Made 1 (union_answer k (length out.old) a.now b.now) (union_words k a.now b.now out.old) out.old told.old result out.new told.new }
 {
     if told.len() < 1 {
@@ -78,8 +71,7 @@ pub extern "C" fn jomankitu_union(
 }
 
 // Makes out the intersection of two sets.
-#[unsafe(no_mangle)]
-pub extern "C" fn jomankitu_intersection(k: u64, a: &[u64], b: &[u64], out: &mut [u64]) -> u64
+pub fn jomankitu_intersection(k: u64, a: &[u64], b: &[u64], out: &mut [u64]) -> u64
     ensures { Left (intersect_answer k (length out.old) a.now b.now) (intersect_words k a.now b.now out.old) result out.new }
 {
     let s = lookahead::intersection(k, a, b, out);
@@ -87,8 +79,7 @@ pub extern "C" fn jomankitu_intersection(k: u64, a: &[u64], b: &[u64], out: &mut
 }
 
 // Whether two sets have no member in common, in one word: 1 or 0.
-#[unsafe(no_mangle)]
-pub extern "C" fn jomankitu_disjoint(k: u64, a: &[u64], b: &[u64], out: &mut [u64]) -> u64
+pub fn jomankitu_disjoint(k: u64, a: &[u64], b: &[u64], out: &mut [u64]) -> u64
     ensures { Told 1 (disjoint_answer k a.now b.now) out.old result out.new }
 {
     let t = lookahead::is_disjoint(k, a, b);
@@ -96,8 +87,7 @@ pub extern "C" fn jomankitu_disjoint(k: u64, a: &[u64], b: &[u64], out: &mut [u6
 }
 
 // Whether a set has a member and every member is complete at k, in one word: 1 or 0.
-#[unsafe(no_mangle)]
-pub extern "C" fn jomankitu_all_complete(k: u64, a: &[u64], out: &mut [u64]) -> u64
+pub fn jomankitu_all_complete(k: u64, a: &[u64], out: &mut [u64]) -> u64
     ensures { Told 1 (complete_answer k a.now) out.old result out.new }
 {
     let t = lookahead::is_k_complete(k, a);
@@ -105,8 +95,7 @@ pub extern "C" fn jomankitu_all_complete(k: u64, a: &[u64], out: &mut [u64]) -> 
 }
 
 // Makes out the join of two sets at k.
-#[unsafe(no_mangle)]
-pub extern "C" fn jomankitu_join_sets(k: u64, a: &[u64], b: &[u64], out: &mut [u64]) -> u64
+pub fn jomankitu_join_sets(k: u64, a: &[u64], b: &[u64], out: &mut [u64]) -> u64
     ensures { Left (join_answer k (length out.old) a.now b.now) (join_words k a.now b.now out.old) result out.new }
 {
     let s = lookahead::k_concat(k, a, b, out);

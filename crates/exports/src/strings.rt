@@ -121,8 +121,7 @@ fn unpacked_words(u: Unpacked) -> [u64; 11]
 }
 
 // The width for the greatest terminal m, in one word.
-#[unsafe(no_mangle)]
-pub extern "C" fn jomankitu_width(m: u64, out: &mut [u64]) -> u64
+pub fn jomankitu_width(m: u64, out: &mut [u64]) -> u64
     ensures { Told 1 (width_answer m) out.old result out.new }
 {
     let a = lookahead::width(m);
@@ -130,8 +129,7 @@ pub extern "C" fn jomankitu_width(m: u64, out: &mut [u64]) -> u64
 }
 
 // ε, for the greatest terminal m, in two words.
-#[unsafe(no_mangle)]
-pub extern "C" fn jomankitu_eps(m: u64, out: &mut [u64]) -> u64
+pub fn jomankitu_eps(m: u64, out: &mut [u64]) -> u64
     ensures { Told 2 (eps_answer m) out.old result out.new }
 {
     let a = Terminals::eps(m);
@@ -139,8 +137,7 @@ pub extern "C" fn jomankitu_eps(m: u64, out: &mut [u64]) -> u64
 }
 
 // The end marker alone, for the greatest terminal m, in two words.
-#[unsafe(no_mangle)]
-pub extern "C" fn jomankitu_end(m: u64, out: &mut [u64]) -> u64
+pub fn jomankitu_end(m: u64, out: &mut [u64]) -> u64
     ensures { Told 2 (end_answer m) out.old result out.new }
 {
     let a = Terminals::end(m);
@@ -148,8 +145,7 @@ pub extern "C" fn jomankitu_end(m: u64, out: &mut [u64]) -> u64
 }
 
 // The first k of a list, for the greatest terminal m, in two words. An end marker may only be the last of them.
-#[unsafe(no_mangle)]
-pub extern "C" fn jomankitu_make(ts: &[u16], k: u64, m: u64, out: &mut [u64]) -> u64
+pub fn jomankitu_make(ts: &[u16], k: u64, m: u64, out: &mut [u64]) -> u64
     ensures { Told 2 (make_answer k m ts.now) out.old result out.new }
 {
     let a = Terminals::make(ts, k, m);
@@ -157,8 +153,7 @@ pub extern "C" fn jomankitu_make(ts: &[u16], k: u64, m: u64, out: &mut [u64]) ->
 }
 
 // A string with one slot more, in two words. Nothing goes behind an end marker.
-#[unsafe(no_mangle)]
-pub extern "C" fn jomankitu_push(lo: u64, hi: u64, x: u64, out: &mut [u64]) -> u64
+pub fn jomankitu_push(lo: u64, hi: u64, x: u64, out: &mut [u64]) -> u64
     ensures { Told 2 (push_answer x (reads (pair lo hi))) out.old result out.new }
 {
     let t = Terminals { lo, hi };
@@ -167,8 +162,7 @@ pub extern "C" fn jomankitu_push(lo: u64, hi: u64, x: u64, out: &mut [u64]) -> u
 }
 
 // The first k slots of a string, in two words.
-#[unsafe(no_mangle)]
-pub extern "C" fn jomankitu_cut(lo: u64, hi: u64, k: u64, out: &mut [u64]) -> u64
+pub fn jomankitu_cut(lo: u64, hi: u64, k: u64, out: &mut [u64]) -> u64
     ensures { Told 2 (cut_answer k (reads (pair lo hi))) out.old result out.new }
 {
     let t = Terminals { lo, hi };
@@ -177,15 +171,7 @@ pub extern "C" fn jomankitu_cut(lo: u64, hi: u64, k: u64, out: &mut [u64]) -> u6
 }
 
 // The join of x with y at k, in two words.
-#[unsafe(no_mangle)]
-pub extern "C" fn jomankitu_join(
-    xlo: u64,
-    xhi: u64,
-    ylo: u64,
-    yhi: u64,
-    k: u64,
-    out: &mut [u64],
-) -> u64
+pub fn jomankitu_join(xlo: u64, xhi: u64, ylo: u64, yhi: u64, k: u64, out: &mut [u64]) -> u64
     ensures { Told 2 (join_answer k (reads (pair xlo xhi)) (reads (pair ylo yhi))) out.old result out.new }
 {
     let x = Terminals { lo: xlo, hi: xhi };
@@ -195,8 +181,7 @@ pub extern "C" fn jomankitu_join(
 }
 
 // Whether a string is complete at k, in one word: 1 or 0.
-#[unsafe(no_mangle)]
-pub extern "C" fn jomankitu_complete(lo: u64, hi: u64, k: u64, out: &mut [u64]) -> u64
+pub fn jomankitu_complete(lo: u64, hi: u64, k: u64, out: &mut [u64]) -> u64
     ensures { Told 1 (complete_answer k (reads (pair lo hi))) out.old result out.new }
 {
     let t = Terminals { lo, hi };
@@ -205,8 +190,7 @@ pub extern "C" fn jomankitu_complete(lo: u64, hi: u64, k: u64, out: &mut [u64]) 
 }
 
 // The order of x and y, in one word: 0 less, 1 equal, 2 greater.
-#[unsafe(no_mangle)]
-pub extern "C" fn jomankitu_order(xlo: u64, xhi: u64, ylo: u64, yhi: u64, out: &mut [u64]) -> u64
+pub fn jomankitu_order(xlo: u64, xhi: u64, ylo: u64, yhi: u64, out: &mut [u64]) -> u64
     ensures { Told 1 (order_answer (reads (pair xlo xhi)) (reads (pair ylo yhi))) out.old result out.new }
 {
     let x = Terminals { lo: xlo, hi: xhi };
@@ -216,8 +200,7 @@ pub extern "C" fn jomankitu_order(xlo: u64, xhi: u64, ylo: u64, yhi: u64, out: &
 }
 
 // The length of a string and ten slots, ε as 65,535 and unused places 0, in eleven words.
-#[unsafe(no_mangle)]
-pub extern "C" fn jomankitu_unpack(lo: u64, hi: u64, out: &mut [u64]) -> u64
+pub fn jomankitu_unpack(lo: u64, hi: u64, out: &mut [u64]) -> u64
     ensures { UnpackedTo (unpack_answer (reads (pair lo hi))) out.old result out.new }
 {
     let t = Terminals { lo, hi };
