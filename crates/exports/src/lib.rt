@@ -1,4 +1,4 @@
-// The surface for C, and for any language that calls C: a static library. A slice is passed as a pointer and a length. A function answers by the
+// The surface for C, and for any language that calls C; `exports_c` is its archive. A slice is passed as a pointer and a length. A function answers by the
 // number of a refusal, 0 where there is none, and leaves its other numbers in lent words.
 #![tactic(auto)]
 
