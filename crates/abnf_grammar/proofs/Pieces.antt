@@ -5,7 +5,7 @@ use mathlib.Core.Path.{◌≡◌, refl, sym, ap, ◌∙◌, subst}
 use mathlib.Core.Logic.{inl, inr}
 use mathlib.Core.List.{List, [], ◌∷◌, ◌++◌, append_assoc}
 use mathlib.Core.Bool.{Bool}
-use Rattle.abnf_grammar.specs.Subset.{Part, named, quoted, optional, Row, last, next, Choice, only, either, Definition, Piece, byte, char, ◌⨾◌, ◌/◌, Many, none, more, Some, spelled, CRLF, comment, c-nl, c-wsp, rulename, char_val, element, concatenation, alternation, defined-as, elements, rule}
+use Rattle.abnf_grammar.specs.Subset.{Part, named, quoted, optional, Row, last, next, Choice, only, either, Definition, Piece, byte, char, ◌⨾◌, ◌or◌, Many, none, more, Some, spelled, CRLF, comment, c-nl, c-wsp, rulename, char_val, element, concatenation, alternation, defined-as, elements, rule}
 use Rattle.abnf_tables.specs.Bytes.{blank, comment_byte, literal_byte, name_byte}
 
 -- a piece x stands before any text
@@ -36,7 +36,7 @@ seq-proper P Q p q bs rest w =
       λ r. (b.0 ++ r, subst (λ z. P z (b.0 ++ r)) (sym (append_assoc a.0 b.0 r)) (a.2 (b.0 ++ r)), b.2 r),
     )
 
-or-proper : (P Q : Piece) → Proper P → Proper Q → Proper (P / Q)
+or-proper : (P Q : Piece) → Proper P → Proper Q → Proper (P or Q)
 or-proper P Q p q bs rest (inl w) = let a = p bs rest w in (a.0, a.1, λ r. inl (a.2 r))
 or-proper P Q p q bs rest (inr w) = let a = q bs rest w in (a.0, a.1, λ r. inr (a.2 r))
 

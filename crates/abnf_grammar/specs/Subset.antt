@@ -46,10 +46,10 @@ infixr 20 ◌⨾◌
 abbrev pub ◌⨾◌ : Piece → Piece → Piece
 ◌⨾◌ P Q bs rest = (mid : List ℕ) × P bs mid × Q mid rest
 
-infixr 10 ◌/◌
+infixr 10 ◌or◌
 -- one or the other
-abbrev pub ◌/◌ : Piece → Piece → Piece
-◌/◌ P Q bs rest = P bs rest ⊎ Q bs rest
+abbrev pub ◌or◌ : Piece → Piece → Piece
+◌or◌ P Q bs rest = P bs rest ⊎ Q bs rest
 
 -- *P and 1*P
 pub data Many (P : List ℕ → List ℕ → Type 0) : List ℕ → List ℕ → Type 0 where
@@ -78,11 +78,11 @@ comment = char 59 ⨾ Many (byte comment_byte) ⨾ CRLF
 
 -- c-nl = comment / CRLF
 abbrev pub c-nl : Piece
-c-nl = comment / CRLF
+c-nl = comment or CRLF
 
 -- c-wsp = WSP / (c-nl WSP)
 abbrev pub c-wsp : Piece
-c-wsp = WSP / c-nl ⨾ WSP
+c-wsp = WSP or c-nl ⨾ WSP
 
 -- rulename = ALPHA *(ALPHA / DIGIT / "-")
 abbrev pub rulename : List ℕ → Piece

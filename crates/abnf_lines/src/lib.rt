@@ -2,12 +2,14 @@
 // parts of the text are the library's, and proved there; here is text.
 #![tactic(auto)]
 
+ghost use Rattle.std.specs.Prelude.{IfOk, OnErr};
 ghost use Rattle.lines.specs.Waits.{Waits};
 
 use crate::numbers::put_numbers;
 use crate::place::put_place;
 use lines::{put, put_number, put_pairs, put_text};
 use lookahead::{TableAnswer, read_abnf};
+use std::io;
 
 mod numbers;
 mod place;
@@ -25,57 +27,81 @@ fn front(bytes: &[u8], end: usize) -> &[u8] {
 }
 
 // The place of a refusal; 10 has none.
-fn put_at(out: &mut [u8], at: usize, number: u16, place: u16) -> usize
+fn put_at(rt: &impl Print, out: &mut [u8], at: usize, number: u16, place: u16) -> io::Result<usize>
     requires { Waits at out.old }
-    ensures { Waits result out.new }
+    ensures ok { IfOk result (λ next. Waits next out.new) }
+    ensures err { OnErr result (Waits 0 out.new) }
 {
     if number == 10 {
-        return at;
+        return Ok(at);
     }
-    let next = put_text(out, at, b" at ");
-    put_number(out, next, wide(place))
+    let next = put_text(rt, out, at, b" at ")?;
+    put_number(rt, out, next, wide(place))
 }
 
 // The line of a refusal.
-fn put_refusal(out: &mut [u8], at: usize, number: u16, place: u16) -> usize
+fn put_refusal(
+    rt: &impl Print,
+    out: &mut [u8],
+    at: usize,
+    number: u16,
+    place: u16,
+) -> io::Result<usize>
     requires { Waits at out.old }
-    ensures { Waits result out.new }
+    ensures ok { IfOk result (λ next. Waits next out.new) }
+    ensures err { OnErr result (Waits 0 out.new) }
 {
-    let next = put_text(out, at, b"refused ");
-    let next = put_number(out, next, wide(number));
-    let next = put_at(out, next, number, place);
-    put(out, next, b'\n')
+    let next = put_text(rt, out, at, b"refused ")?;
+    let next = put_number(rt, out, next, wide(number))?;
+    let next = put_at(rt, out, next, number, place)?;
+    put(rt, out, next, b'\n')
 }
 
 // The first line: the table that an answer speaks of, or the refusal.
-pub fn put_answer(out: &mut [u8], at: usize, answer: TableAnswer, table: &[u8]) -> usize
+pub fn put_answer(
+    rt: &impl Print,
+    out: &mut [u8],
+    at: usize,
+    answer: TableAnswer,
+    table: &[u8],
+) -> io::Result<usize>
     requires { Waits at out.old }
-    ensures { Waits result out.new }
+    ensures ok { IfOk result (λ next. Waits next out.new) }
+    ensures err { OnErr result (Waits 0 out.new) }
 {
     match answer {
-        TableAnswer::Written(n) => put_pairs(out, at, front(table, n)),
-        TableAnswer::Refused { number, place } => put_refusal(out, at, number, place),
+        TableAnswer::Written(n) => put_pairs(rt, out, at, front(table, n)),
+        TableAnswer::Refused { number, place } => put_refusal(rt, out, at, number, place),
     }
 }
 
 // The lines behind the first: what each number stands for, or where the refusal is.
-fn put_behind(out: &mut [u8], at: usize, answer: TableAnswer, text: &[u8], table: &[u8]) -> usize
+fn put_behind(
+    rt: &impl Print,
+    out: &mut [u8],
+    at: usize,
+    answer: TableAnswer,
+    text: &[u8],
+    table: &[u8],
+) -> io::Result<usize>
     requires { Waits at out.old }
-    ensures { Waits result out.new }
+    ensures ok { IfOk result (λ next. Waits next out.new) }
+    ensures err { OnErr result (Waits 0 out.new) }
 {
     match answer {
-        TableAnswer::Written(_) => put_numbers(out, at, text, table),
-        TableAnswer::Refused { number, place } => put_place(out, at, text, number, place),
+        TableAnswer::Written(_) => put_numbers(rt, out, at, text, table),
+        TableAnswer::Refused { number, place } => put_place(rt, out, at, text, number, place),
     }
 }
 
 // All lines of a text. Every table of a text's rules has room in 16,384 bytes.
-pub fn put_rules(out: &mut [u8], at: usize, text: &[u8]) -> usize
+pub fn put_rules(rt: &impl Print, out: &mut [u8], at: usize, text: &[u8]) -> io::Result<usize>
     requires { Waits at out.old }
-    ensures { Waits result out.new }
+    ensures ok { IfOk result (λ next. Waits next out.new) }
+    ensures err { OnErr result (Waits 0 out.new) }
 {
     let mut table = [0u8; 16384];
     let answer = read_abnf(text, &mut table);
-    let next = put_answer(out, at, answer, &table);
-    put_behind(out, next, answer, text, &table)
+    let next = put_answer(rt, out, at, answer, &table)?;
+    put_behind(rt, out, next, answer, text, &table)
 }

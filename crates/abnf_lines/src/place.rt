@@ -1,9 +1,11 @@
 // Where in a text a refusal is: its line and column, counted from 1, and the text around it with a mark below the place.
 ghost use Rattle.std.specs.Prelude.{◌+◌, ◌≤◌};
+ghost use Rattle.std.specs.Prelude.{IfOk, OnErr};
 ghost use Rattle.lines.specs.Waits.{Waits};
 
 use abnf_tables::words::{byte_at, index};
 use lines::{put, put_number, put_text};
+use std::io;
 
 // A line's number, and the place of its first byte.
 #[derive(Clone, Copy)]
@@ -23,16 +25,10 @@ fn spot_of(text: &[u8], place: usize) -> Spot
 {
     let mut line: usize = 1;
     let mut start: usize = 0;
-    let mut i: usize = 0;
-    while i < place {
-        let b = byte_at(text, i);
-        let next = i + 1;
-        if b == b'\n' {
+    for i in 0..place {
+        if byte_at(text, i) == b'\n' {
             line += 1;
-            start = next;
-            i = next;
-        } else {
-            i = next;
+            start = i + 1;
         }
     }
     Spot { line, start }
@@ -61,74 +57,101 @@ fn shown(b: u8) -> u8 {
 }
 
 // The bytes of a line from a place on, at most so many.
-fn put_around(out: &mut [u8], at: usize, text: &[u8], from: usize, most: usize) -> usize
+fn put_around(
+    rt: &impl Print,
+    out: &mut [u8],
+    at: usize,
+    text: &[u8],
+    from: usize,
+    most: usize,
+) -> io::Result<usize>
     requires { Waits at out.old × (from + most ≤ 131072) }
-    ensures { Waits result out.new }
+    ensures ok { IfOk result (λ next. Waits next out.new) }
+    ensures err { OnErr result (Waits 0 out.new) }
 {
     let end = from + most;
     let mut next = at;
-    let mut i = from;
-    while i < end {
+    for i in from..end {
         let b = byte_at(text, i);
         if b == 0 {
-            return put(out, next, b'\n');
+            return put(rt, out, next, b'\n');
         }
         if ends_line(b) {
-            return put(out, next, b'\n');
+            return put(rt, out, next, b'\n');
         }
-        next = put(out, next, shown(b));
-        i += 1;
+        next = put(rt, out, next, shown(b))?;
     }
-    put(out, next, b'\n')
+    put(rt, out, next, b'\n')
 }
 
 // A mark behind so many blanks.
-fn put_mark(out: &mut [u8], at: usize, blanks: usize) -> usize
+fn put_mark(rt: &impl Print, out: &mut [u8], at: usize, blanks: usize) -> io::Result<usize>
     requires { Waits at out.old }
-    ensures { Waits result out.new }
+    ensures ok { IfOk result (λ next. Waits next out.new) }
+    ensures err { OnErr result (Waits 0 out.new) }
 {
     let mut next = at;
-    let mut i = 0;
-    while i < blanks {
-        next = put(out, next, b' ');
-        i += 1;
+    for i in 0..blanks {
+        next = put(rt, out, next, b' ')?;
     }
-    put_text(out, next, b"^\n")
+    put_text(rt, out, next, b"^\n")
 }
 
 // The line and the column.
-fn put_spot(out: &mut [u8], at: usize, line: usize, column: usize) -> usize
+fn put_spot(
+    rt: &impl Print,
+    out: &mut [u8],
+    at: usize,
+    line: usize,
+    column: usize,
+) -> io::Result<usize>
     requires { Waits at out.old }
-    ensures { Waits result out.new }
+    ensures ok { IfOk result (λ next. Waits next out.new) }
+    ensures err { OnErr result (Waits 0 out.new) }
 {
-    let next = put_text(out, at, b"line ");
-    let next = put_number(out, next, line as u64);
-    let next = put_text(out, next, b" column ");
-    let next = put_number(out, next, column as u64);
-    put(out, next, b'\n')
+    let next = put_text(rt, out, at, b"line ")?;
+    let next = put_number(rt, out, next, line as u64)?;
+    let next = put_text(rt, out, next, b" column ")?;
+    let next = put_number(rt, out, next, column as u64)?;
+    put(rt, out, next, b'\n')
 }
 
 // The lines of a place: up to 40 bytes before it and 40 from it on.
-fn put_lines(out: &mut [u8], at: usize, text: &[u8], place: usize) -> usize
+fn put_lines(
+    rt: &impl Print,
+    out: &mut [u8],
+    at: usize,
+    text: &[u8],
+    place: usize,
+) -> io::Result<usize>
     requires { Waits at out.old × (place ≤ 65535) }
-    ensures { Waits result out.new }
+    ensures ok { IfOk result (λ next. Waits next out.new) }
+    ensures err { OnErr result (Waits 0 out.new) }
 {
     let spot = spot_of(text, place);
     let column = behind(spot.start, place, 65535) + 1;
     let before = behind(spot.start, place, 40);
     let from = place - before;
-    let next = put_spot(out, at, spot.line, column);
-    let next = put_around(out, next, text, from, before + 40);
-    put_mark(out, next, before)
+    let next = put_spot(rt, out, at, spot.line, column)?;
+    let next = put_around(rt, out, next, text, from, before + 40)?;
+    put_mark(rt, out, next, before)
 }
 
 // Where a refusal is; 10 is at no place.
-pub fn put_place(out: &mut [u8], at: usize, text: &[u8], number: u16, place: u16) -> usize
+pub fn put_place(
+    rt: &impl Print,
+    out: &mut [u8],
+    at: usize,
+    text: &[u8],
+    number: u16,
+    place: u16,
+) -> io::Result<usize>
     requires { Waits at out.old }
-    ensures { Waits result out.new }
+    ensures ok { IfOk result (λ next. Waits next out.new) }
+    ensures err { OnErr result (Waits 0 out.new) }
 {
     if number == 10 {
-        return at;
+        return Ok(at);
     }
-    put_lines(out, at, text, index(place))
+    put_lines(rt, out, at, text, index(place))
 }

@@ -5,12 +5,10 @@ use lines::number;
 // The place behind so many arrows.
 fn behind_arrows(bytes: &[u8], place: usize, count: u64) -> usize {
     let mut at = place;
-    let mut i = 0;
-    while i < count {
+    for _ in 0..count {
         let terminal = number(bytes, at);
         let target = number(bytes, terminal.next);
         at = target.next;
-        i += 1;
     }
     at
 }
@@ -18,12 +16,10 @@ fn behind_arrows(bytes: &[u8], place: usize, count: u64) -> usize {
 // The place behind so many states.
 fn behind_states(bytes: &[u8], place: usize, count: u64) -> usize {
     let mut at = place;
-    let mut i = 0;
-    while i < count {
+    for _ in 0..count {
         let production = number(bytes, at);
         let arrows = number(bytes, production.next);
         at = behind_arrows(bytes, arrows.next, arrows.value);
-        i += 1;
     }
     at
 }
@@ -31,11 +27,9 @@ fn behind_states(bytes: &[u8], place: usize, count: u64) -> usize {
 // Where the automaton of a nonterminal stands.
 fn automaton_at(bytes: &[u8], nonterminal: u64) -> usize {
     let mut at = 0;
-    let mut i = 0;
-    while i < nonterminal {
+    for _ in 0..nonterminal {
         let count = number(bytes, at);
         at = behind_states(bytes, count.next, count.value);
-        i += 1;
     }
     at
 }
@@ -43,15 +37,13 @@ fn automaton_at(bytes: &[u8], nonterminal: u64) -> usize {
 // The target of an arrow by a terminal, among so many; 0 where there is none, since no arrow leads to the first state.
 fn target_of(bytes: &[u8], place: usize, count: u64, x: u64) -> u64 {
     let mut at = place;
-    let mut i = 0;
-    while i < count {
+    for _ in 0..count {
         let terminal = number(bytes, at);
         let target = number(bytes, terminal.next);
         if terminal.value == x {
             return target.value;
         }
         at = target.next;
-        i += 1;
     }
     0
 }

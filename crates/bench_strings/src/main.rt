@@ -8,8 +8,8 @@ ghost use Rattle.std.specs.Prelude.{◌<◌};
 use k_joins::k_concat;
 use k_tuple::{StringAnswer, Terminals};
 use k_tuples::union;
-use libc::STDIN_FILENO;
 use replay::told;
+use std::io;
 use std::num::wrapping_add_u64;
 
 const K: u64 = 4;
@@ -54,11 +54,9 @@ fn with(set: [u64; 129], x: StringAnswer) -> [u64; 129] {
 // The set of the strings of a number and the ones after it.
 fn set_of(from: u64, members: u64) -> [u64; 129] {
     let mut set = [0u64; 129];
-    let mut i = 0;
-    while i < members {
+    for i in 0..members {
         let next = with(set, string(wrapping_add_u64(from, i)));
         set = next;
-        i += 1;
     }
     set
 }
@@ -69,10 +67,8 @@ fn mixed(sum: u64, word: u64) -> u64 {
 
 fn digest(words: &[u64]) -> u64 {
     let mut sum = 0;
-    let mut i = 0;
-    while i < words.len() {
+    for i in 0..words.len() {
         sum = mixed(sum, words[i]);
-        i += 1;
     }
     sum
 }
@@ -87,34 +83,35 @@ fn round(r: u64, members: u64, joined: &mut [u64], sum: &mut [u64]) -> u64 {
 
 fn worked(rounds: u64, members: u64, joined: &mut [u64], sum: &mut [u64]) -> u64 {
     let mut check = 0;
-    let mut r = 0;
-    while r < rounds {
+    for r in 0..rounds {
         check = mixed(check, round(r, members, joined, sum));
-        r += 1;
     }
     check
 }
 
-fn run(text: &[u8]) -> bool {
+fn run(rt: &impl Print, text: &[u8]) -> io::Result<bool> {
     let end = replay::find(text, 0, b'\n');
     let mut n = [0u64; 4];
     let column = replay::read_column(&text[0..end], 0, &mut n);
     if !column.ok || column.count != 3 {
-        return false;
+        return Ok(false);
     }
     if 2049 < n[2] {
-        return false;
+        return Ok(false);
     }
     let size = n[2] as usize;
     let mut joined = [0u64; 2049];
     let mut sum = [0u64; 2049];
-    replay::decimal(worked(n[0], n[1], &mut joined[0..size], &mut sum[0..size]));
-    told(b"");
-    true
+    replay::decimal(
+        rt,
+        worked(n[0], n[1], &mut joined[0..size], &mut sum[0..size]),
+    )?;
+    told(rt, b"")?;
+    Ok(true)
 }
 
-fn main() {
-    let mut text = io::buffer();
-    let n = io::read_full(STDIN_FILENO, &mut text);
-    replay::readable(run(&text[..n]));
+fn main(rt: HostRuntime) -> io::Result<()> {
+    let mut text = [0u8; 4096];
+    let n = streams::read_full(&mut rt.reader(), &mut text)?;
+    replay::readable(&rt, run(&rt, &text[..n])?)
 }

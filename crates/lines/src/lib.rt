@@ -1,12 +1,14 @@
 // A listing: k, c and a table become FIRST and FOLLOW as lines of text. Thin: what is worked out is the library's, and proved there; here is text.
 #![tactic(auto)]
 
+ghost use Rattle.std.specs.Prelude.{IfOk, OnErr};
 ghost use Rattle.lines.specs.Waits.{Waits};
 
 use crate::positions::put_positions;
 use crate::sets::{Sizes, put_set};
 use cfg::table::{Answer, read_number};
 use lookahead::{Lookahead, lookahead_sets};
+use std::io;
 
 mod needed;
 mod positions;
@@ -27,60 +29,69 @@ fn wide(x: u16) -> u64 {
 }
 
 // A refusal, and nothing else.
-pub fn put_refused(out: &mut [u8], at: usize, number: u64) -> usize
+pub fn put_refused(rt: &impl Print, out: &mut [u8], at: usize, number: u64) -> io::Result<usize>
     requires { Waits at out.old }
-    ensures { Waits result out.new }
+    ensures ok { IfOk result (λ next. Waits next out.new) }
+    ensures err { OnErr result (Waits 0 out.new) }
 {
-    let next = put_text(out, at, b"refused ");
-    let next = put_number(out, next, number);
-    put(out, next, b'\n')
+    let next = put_text(rt, out, at, b"refused ")?;
+    let next = put_number(rt, out, next, number)?;
+    put(rt, out, next, b'\n')
 }
 
 // The rounds of the first k levels, each behind a blank.
-fn put_rounds(out: &mut [u8], at: usize, k: u64, rounds: &[u64]) -> usize
+fn put_rounds(
+    rt: &impl Print,
+    out: &mut [u8],
+    at: usize,
+    k: u64,
+    rounds: &[u64],
+) -> io::Result<usize>
     requires { Waits at out.old }
-    ensures { Waits result out.new }
+    ensures ok { IfOk result (λ next. Waits next out.new) }
+    ensures err { OnErr result (Waits 0 out.new) }
 {
     let mut next = at;
-    let mut i = 0;
-    while i < rounds.len() {
+    for i in 0..rounds.len() {
         if k <= i as u64 {
-            return next;
+            return Ok(next);
         }
-        next = put(out, next, b' ');
-        next = put_number(out, next, rounds[i]);
-        i += 1;
+        next = put(rt, out, next, b' ')?;
+        next = put_number(rt, out, next, rounds[i])?;
     }
-    next
+    Ok(next)
 }
 
 // k and the width.
-fn put_width(out: &mut [u8], at: usize, k: u64, width: u64) -> usize
+fn put_width(rt: &impl Print, out: &mut [u8], at: usize, k: u64, width: u64) -> io::Result<usize>
     requires { Waits at out.old }
-    ensures { Waits result out.new }
+    ensures ok { IfOk result (λ next. Waits next out.new) }
+    ensures err { OnErr result (Waits 0 out.new) }
 {
-    let next = put_text(out, at, b"k ");
-    let next = put_number(out, next, k);
-    let next = put_text(out, next, b" width ");
-    put_number(out, next, width)
+    let next = put_text(rt, out, at, b"k ")?;
+    let next = put_number(rt, out, next, k)?;
+    let next = put_text(rt, out, next, b" width ")?;
+    put_number(rt, out, next, width)
 }
 
 // The first line: k, the width, the rounds of each level and those of FOLLOW.
-fn put_head(out: &mut [u8], at: usize, k: u64, a: Lookahead) -> usize
+fn put_head(rt: &impl Print, out: &mut [u8], at: usize, k: u64, a: Lookahead) -> io::Result<usize>
     requires { Waits at out.old }
-    ensures { Waits result out.new }
+    ensures ok { IfOk result (λ next. Waits next out.new) }
+    ensures err { OnErr result (Waits 0 out.new) }
 {
     let rounds = a.rounds;
-    let next = put_width(out, at, k, a.width);
-    let next = put_text(out, next, b" rounds");
-    let next = put_rounds(out, next, k, &rounds);
-    let next = put_text(out, next, b" follow ");
-    let next = put_number(out, next, a.follow);
-    put(out, next, b'\n')
+    let next = put_width(rt, out, at, k, a.width)?;
+    let next = put_text(rt, out, next, b" rounds")?;
+    let next = put_rounds(rt, out, next, k, &rounds)?;
+    let next = put_text(rt, out, next, b" follow ")?;
+    let next = put_number(rt, out, next, a.follow)?;
+    put(rt, out, next, b'\n')
 }
 
 // The sets of a kind, a line each: the kind's letter, the number, the members.
 fn put_kind(
+    rt: &impl Print,
     out: &mut [u8],
     at: usize,
     letter: u8,
@@ -88,26 +99,34 @@ fn put_kind(
     count: u64,
     res: &[u64],
     s: Sizes,
-) -> usize
+) -> io::Result<usize>
     requires { Waits at out.old }
-    ensures { Waits result out.new }
+    ensures ok { IfOk result (λ next. Waits next out.new) }
+    ensures err { OnErr result (Waits 0 out.new) }
 {
     let mut next = at;
-    let mut i = 0;
-    while i < count {
-        next = put(out, next, letter);
-        next = put(out, next, b' ');
-        next = put_number(out, next, i);
-        next = put_set(out, next, res, kind, index(i), s);
-        i += 1;
+    for i in 0..count {
+        next = put(rt, out, next, letter)?;
+        next = put(rt, out, next, b' ')?;
+        next = put_number(rt, out, next, i)?;
+        next = put_set(rt, out, next, res, kind, index(i), s)?;
     }
-    next
+    Ok(next)
 }
 
 // The lines of all sets.
-fn put_sets(out: &mut [u8], at: usize, c: u64, table: &[u8], res: &[u64], a: Lookahead) -> usize
+fn put_sets(
+    rt: &impl Print,
+    out: &mut [u8],
+    at: usize,
+    c: u64,
+    table: &[u8],
+    res: &[u64],
+    a: Lookahead,
+) -> io::Result<usize>
     requires { Waits at out.old }
-    ensures { Waits result out.new }
+    ensures ok { IfOk result (λ next. Waits next out.new) }
+    ensures err { OnErr result (Waits 0 out.new) }
 {
     let s = Sizes {
         n: index(a.n),
@@ -115,25 +134,33 @@ fn put_sets(out: &mut [u8], at: usize, c: u64, table: &[u8], res: &[u64], a: Loo
         q: index(a.q),
         c: index(c),
     };
-    let next = put_kind(out, at, b'_n', 0, a.n, res, s);
-    let next = put_kind(out, next, b'_p', 1, a.p, res, s);
-    let next = put_kind(out, next, b'_f', 2, a.n, res, s);
-    put_positions(out, next, a.p, table, res, s)
+    let next = put_kind(rt, out, at, b'N', 0, a.n, res, s)?;
+    let next = put_kind(rt, out, next, b'P', 1, a.p, res, s)?;
+    let next = put_kind(rt, out, next, b'F', 2, a.n, res, s)?;
+    put_positions(rt, out, next, a.p, table, res, s)
 }
 
 // The listing of a table.
-fn put_table(out: &mut [u8], at: usize, k: u64, c: u64, table: &[u8]) -> usize
+fn put_table(
+    rt: &impl Print,
+    out: &mut [u8],
+    at: usize,
+    k: u64,
+    c: u64,
+    table: &[u8],
+) -> io::Result<usize>
     requires { Waits at out.old }
-    ensures { Waits result out.new }
+    ensures ok { IfOk result (λ next. Waits next out.new) }
+    ensures err { OnErr result (Waits 0 out.new) }
 {
     let mut result = [0u64; 4096];
     let mut scratch = [0u64; 4096];
     let a = lookahead_sets(k, c, table, &mut result, &mut scratch);
     if a.refusal != 0 {
-        return put_refused(out, at, a.refusal);
+        return put_refused(rt, out, at, a.refusal);
     }
-    let next = put_head(out, at, k, a);
-    put_sets(out, next, c, table, &result, a)
+    let next = put_head(rt, out, at, k, a)?;
+    put_sets(rt, out, next, c, table, &result, a)
 }
 
 // What stands from a place on; nothing, past the end.
@@ -187,14 +214,15 @@ pub fn read_before(input: &[u8]) -> Before {
 }
 
 // The listing of one input: k and c as seven-bit numbers, and the table.
-pub fn put_listing(out: &mut [u8], at: usize, input: &[u8]) -> usize
+pub fn put_listing(rt: &impl Print, out: &mut [u8], at: usize, input: &[u8]) -> io::Result<usize>
     requires { Waits at out.old }
-    ensures { Waits result out.new }
+    ensures ok { IfOk result (λ next. Waits next out.new) }
+    ensures err { OnErr result (Waits 0 out.new) }
 {
     let h = read_before(input);
     if h.refusal != 0 {
-        return put_refused(out, at, h.refusal);
+        return put_refused(rt, out, at, h.refusal);
     }
     let next = h.next;
-    put_table(out, at, h.first, h.second, rest(input, next))
+    put_table(rt, out, at, h.first, h.second, rest(input, next))
 }

@@ -1,10 +1,12 @@
 // Sets as lines: the members in their order, each as its slots in brackets.
+ghost use Rattle.std.specs.Prelude.{IfOk, OnErr};
 ghost use Rattle.lines.specs.Waits.{Waits};
 
 use crate::text::{put, put_number, put_text};
 use crate::wide;
 use k_tuples::set::counted;
 use lookahead::{Terminals, set_of};
+use std::io;
 
 // How many sets a result has, and the member room of each: what asking for one set names.
 #[derive(Clone, Copy)]
@@ -16,63 +18,72 @@ pub struct Sizes {
 }
 
 // One slot; e is ε.
-fn put_slot(out: &mut [u8], at: usize, slot: u16) -> usize
+fn put_slot(rt: &impl Print, out: &mut [u8], at: usize, slot: u16) -> io::Result<usize>
     requires { Waits at out.old }
-    ensures { Waits result out.new }
+    ensures ok { IfOk result (λ next. Waits next out.new) }
+    ensures err { OnErr result (Waits 0 out.new) }
 {
     if slot == 65535 {
-        return put(out, at, b'e');
+        return put(rt, out, at, b'e');
     }
-    put_number(out, at, wide(slot))
+    put_number(rt, out, at, wide(slot))
 }
 
 // A blank before every slot but the first.
-fn put_parted(out: &mut [u8], at: usize, i: usize) -> usize
+fn put_parted(rt: &impl Print, out: &mut [u8], at: usize, i: usize) -> io::Result<usize>
     requires { Waits at out.old }
-    ensures { Waits result out.new }
+    ensures ok { IfOk result (λ next. Waits next out.new) }
+    ensures err { OnErr result (Waits 0 out.new) }
 {
     if 0 < i {
-        return put(out, at, b' ');
+        return put(rt, out, at, b' ');
     }
-    at
+    Ok(at)
 }
 
 // The slots that are used.
-pub fn put_slots(out: &mut [u8], at: usize, slots: &[u16], used: u64) -> usize
+pub fn put_slots(
+    rt: &impl Print,
+    out: &mut [u8],
+    at: usize,
+    slots: &[u16],
+    used: u64,
+) -> io::Result<usize>
     requires { Waits at out.old }
-    ensures { Waits result out.new }
+    ensures ok { IfOk result (λ next. Waits next out.new) }
+    ensures err { OnErr result (Waits 0 out.new) }
 {
     let mut next = at;
-    let mut i = 0;
-    while i < slots.len() {
+    for i in 0..slots.len() {
         if used <= i as u64 {
-            return next;
+            return Ok(next);
         }
-        next = put_parted(out, next, i);
-        next = put_slot(out, next, slots[i]);
-        i += 1;
+        next = put_parted(rt, out, next, i)?;
+        next = put_slot(rt, out, next, slots[i])?;
     }
-    next
+    Ok(next)
 }
 
-fn put_string(out: &mut [u8], at: usize, t: Terminals) -> usize
+fn put_string(rt: &impl Print, out: &mut [u8], at: usize, t: Terminals) -> io::Result<usize>
     requires { Waits at out.old }
-    ensures { Waits result out.new }
+    ensures ok { IfOk result (λ next. Waits next out.new) }
+    ensures err { OnErr result (Waits 0 out.new) }
 {
     let u = t.unpack();
     let slots = u.slots;
-    let next = put_text(out, at, b" [");
-    let next = put_slots(out, next, &slots, u.length);
-    put(out, next, b']')
+    let next = put_text(rt, out, at, b" [")?;
+    let next = put_slots(rt, out, next, &slots, u.length)?;
+    put(rt, out, next, b']')
 }
 
 // The members of a set; of no words, none.
-fn put_members(out: &mut [u8], at: usize, set: &[u64]) -> usize
+fn put_members(rt: &impl Print, out: &mut [u8], at: usize, set: &[u64]) -> io::Result<usize>
     requires { Waits at out.old }
-    ensures { Waits result out.new }
+    ensures ok { IfOk result (λ next. Waits next out.new) }
+    ensures err { OnErr result (Waits 0 out.new) }
 {
     if set.len() == 0 {
-        return at;
+        return Ok(at);
     }
     let mut next = at;
     let mut left = counted(set);
@@ -80,31 +91,33 @@ fn put_members(out: &mut [u8], at: usize, set: &[u64]) -> usize
     let last = set.len() - 1;
     while i < last {
         if left == 0 {
-            return next;
+            return Ok(next);
         }
         let lo = set[i];
         let hi = set[i + 1];
-        next = put_string(out, next, Terminals { lo, hi });
+        next = put_string(rt, out, next, Terminals { lo, hi })?;
         left -= 1;
         i += 2;
     }
-    next
+    Ok(next)
 }
 
 // The rest of a set's line, behind its number: a colon, the members, the line's end.
 pub fn put_set(
+    rt: &impl Print,
     out: &mut [u8],
     at: usize,
     res: &[u64],
     kind: usize,
     number: usize,
     s: Sizes,
-) -> usize
+) -> io::Result<usize>
     requires { Waits at out.old }
-    ensures { Waits result out.new }
+    ensures ok { IfOk result (λ next. Waits next out.new) }
+    ensures err { OnErr result (Waits 0 out.new) }
 {
-    let next = put(out, at, b':');
+    let next = put(rt, out, at, b':')?;
     let set = set_of(res, kind, number, s.n, s.p, s.q, s.c);
-    let next = put_members(out, next, set);
-    put(out, next, b'\n')
+    let next = put_members(rt, out, next, set)?;
+    put(rt, out, next, b'\n')
 }

@@ -1,49 +1,52 @@
 // Text for standard output, gathered in lent bytes and written when they are full. Each function takes the number of bytes that wait, and gives
-// back the number that wait then.
+// back the number that wait then. After a write that failed none is taken to wait.
+ghost use Rattle.std.specs.Prelude.{IfOk, OnErr};
 ghost use Rattle.lines.specs.Waits.{Waits};
 
-use libc::STDOUT_FILENO;
+use io::{decimal, hex};
+use std::io::Result;
 
 // Writes what waits.
-pub fn flush(out: &[u8], at: usize)
+pub fn flush(rt: &impl Print, out: &[u8], at: usize) -> Result<()>
     requires { Waits at out.now }
 {
-    io::write_all(STDOUT_FILENO, &out[0..at]);
+    rt.write_all(&out[0..at])
 }
 
-pub fn put(out: &mut [u8], at: usize, byte: u8) -> usize
+pub fn put(rt: &impl Print, out: &mut [u8], at: usize, byte: u8) -> Result<usize>
     requires { Waits at out.old }
-    ensures { Waits result out.new }
+    ensures ok { IfOk result (λ next. Waits next out.new) }
+    ensures err { OnErr result (Waits 0 out.new) }
 {
     if at < out.len() {
         out[at] = byte;
-        return at + 1;
+        return Ok(at + 1);
     }
-    flush(out, at);
+    flush(rt, out, at)?;
     out[0] = byte;
-    1
+    Ok(1)
 }
 
-pub fn put_text(out: &mut [u8], at: usize, text: &[u8]) -> usize
+pub fn put_text(rt: &impl Print, out: &mut [u8], at: usize, text: &[u8]) -> Result<usize>
     requires { Waits at out.old }
-    ensures { Waits result out.new }
+    ensures ok { IfOk result (λ next. Waits next out.new) }
+    ensures err { OnErr result (Waits 0 out.new) }
 {
     let mut next = at;
-    let mut i = 0;
-    while i < text.len() {
-        next = put(out, next, text[i]);
-        i += 1;
+    for b in text {
+        next = put(rt, out, next, *b)?;
     }
-    next
+    Ok(next)
 }
 
-pub fn put_number(out: &mut [u8], at: usize, number: u64) -> usize
+pub fn put_number(rt: &impl Print, out: &mut [u8], at: usize, number: u64) -> Result<usize>
     requires { Waits at out.old }
-    ensures { Waits result out.new }
+    ensures ok { IfOk result (λ next. Waits next out.new) }
+    ensures err { OnErr result (Waits 0 out.new) }
 {
     let mut digits = [0u8; 20];
-    let n = io::decimal(number, &mut digits);
-    put_text(out, at, &digits[..n])
+    let n = decimal(number, &mut digits);
+    put_text(rt, out, at, &digits[..n])
 }
 
 fn byte(b: u8) -> u64 {
@@ -51,25 +54,25 @@ fn byte(b: u8) -> u64 {
 }
 
 // One byte as two digits.
-fn put_pair(out: &mut [u8], at: usize, b: u8) -> usize
+fn put_pair(rt: &impl Print, out: &mut [u8], at: usize, b: u8) -> Result<usize>
     requires { Waits at out.old }
-    ensures { Waits result out.new }
+    ensures ok { IfOk result (λ next. Waits next out.new) }
+    ensures err { OnErr result (Waits 0 out.new) }
 {
     let mut digits = [0u8; 16];
-    let n = io::hex(byte(b), 2, &mut digits);
-    put_text(out, at, &digits[..n])
+    let n = hex(byte(b), 2, &mut digits);
+    put_text(rt, out, at, &digits[..n])
 }
 
 // Bytes as hexadecimal pairs, and the line's end.
-pub fn put_pairs(out: &mut [u8], at: usize, bytes: &[u8]) -> usize
+pub fn put_pairs(rt: &impl Print, out: &mut [u8], at: usize, bytes: &[u8]) -> Result<usize>
     requires { Waits at out.old }
-    ensures { Waits result out.new }
+    ensures ok { IfOk result (λ next. Waits next out.new) }
+    ensures err { OnErr result (Waits 0 out.new) }
 {
     let mut next = at;
-    let mut i = 0;
-    while i < bytes.len() {
-        next = put_pair(out, next, bytes[i]);
-        i += 1;
+    for b in bytes {
+        next = put_pair(rt, out, next, *b)?;
     }
-    put(out, next, b'\n')
+    put(rt, out, next, b'\n')
 }

@@ -2,6 +2,7 @@
 // there; here is text.
 #![tactic(auto)]
 
+ghost use Rattle.std.specs.Prelude.{IfOk, OnErr};
 ghost use Rattle.lines.specs.Waits.{Waits};
 
 use crate::right::{put_right, put_string};
@@ -12,6 +13,7 @@ use lines::{Before, number, put, put_number, put_refused, put_text, read_before,
 use mark_rows::{read_pairs, read_rows};
 use marking::mark;
 use replay::find;
+use std::io;
 
 mod right;
 
@@ -61,18 +63,28 @@ fn place_of(row: u64) -> usize {
 }
 
 // What would be right where a row is wrong or missing: the automata say it, where there are some.
-fn put_behind(out: &mut [u8], at: usize, limit: u64, c: u64, table: &[u8], p: Prediction) -> usize
+fn put_behind(
+    rt: &impl Print,
+    out: &mut [u8],
+    at: usize,
+    limit: u64,
+    c: u64,
+    table: &[u8],
+    p: Prediction,
+) -> io::Result<usize>
     requires { Waits at out.old }
-    ensures { Waits result out.new }
+    ensures ok { IfOk result (λ next. Waits next out.new) }
+    ensures err { OnErr result (Waits 0 out.new) }
 {
     let mut bytes = [0u8; 65536];
     let mut result = [0u64; 16384];
     let mut scratch = [0u64; 16384];
     let a = automata(limit, c, table, &mut bytes, &mut result, &mut scratch);
     if a.refusal != 0 {
-        return at;
+        return Ok(at);
     }
     put_right(
+        rt,
         out,
         at,
         front(&bytes, a.bytes),
@@ -83,54 +95,71 @@ fn put_behind(out: &mut [u8], at: usize, limit: u64, c: u64, table: &[u8], p: Pr
 }
 
 // A bad row.
-fn put_bad(out: &mut [u8], at: usize, row: u64) -> usize
+fn put_bad(rt: &impl Print, out: &mut [u8], at: usize, row: u64) -> io::Result<usize>
     requires { Waits at out.old }
-    ensures { Waits result out.new }
+    ensures ok { IfOk result (λ next. Waits next out.new) }
+    ensures err { OnErr result (Waits 0 out.new) }
 {
-    let next = put_text(out, at, b"refused 24 at row ");
-    let next = put_number(out, next, row);
-    put(out, next, b'\n')
+    let next = put_text(rt, out, at, b"refused 24 at row ")?;
+    let next = put_number(rt, out, next, row)?;
+    put(rt, out, next, b'\n')
 }
 
 // A missing string.
-fn put_missing(out: &mut [u8], at: usize, nonterminal: u64, string: Terminals) -> usize
+fn put_missing(
+    rt: &impl Print,
+    out: &mut [u8],
+    at: usize,
+    nonterminal: u64,
+    string: Terminals,
+) -> io::Result<usize>
     requires { Waits at out.old }
-    ensures { Waits result out.new }
+    ensures ok { IfOk result (λ next. Waits next out.new) }
+    ensures err { OnErr result (Waits 0 out.new) }
 {
     let u = string.unpack();
     let slots = u.slots;
-    let next = put_text(out, at, b"refused 25 for ");
-    let next = put_string(out, next, nonterminal, &slots, u.length);
-    put(out, next, b'\n')
+    let next = put_text(rt, out, at, b"refused 25 for ")?;
+    let next = put_string(rt, out, next, nonterminal, &slots, u.length)?;
+    put(rt, out, next, b'\n')
 }
 
 // The answer for rows, lent 16,384 words for each buffer.
-fn put_answer(out: &mut [u8], at: usize, limit: u64, c: u64, table: &[u8], rows: &[u64]) -> usize
+fn put_answer(
+    rt: &impl Print,
+    out: &mut [u8],
+    at: usize,
+    limit: u64,
+    c: u64,
+    table: &[u8],
+    rows: &[u64],
+) -> io::Result<usize>
     requires { Waits at out.old }
-    ensures { Waits result out.new }
+    ensures ok { IfOk result (λ next. Waits next out.new) }
+    ensures err { OnErr result (Waits 0 out.new) }
 {
     let mut result = [0u64; 16384];
     let mut scratch = [0u64; 16384];
     let m = mark(limit, c, table, rows, &mut result, &mut scratch);
     if m.refusal == 0 {
-        return put_text(out, at, b"accepted\n");
+        return put_text(rt, out, at, b"accepted\n");
     }
     if m.refusal == 24 {
-        let next = put_bad(out, at, m.row);
+        let next = put_bad(rt, out, at, m.row)?;
         let p = prediction_at(rows, place_of(m.row));
-        return put_behind(out, next, limit, c, table, p);
+        return put_behind(rt, out, next, limit, c, table, p);
     }
     if m.refusal == 25 {
         let string = Terminals { lo: m.lo, hi: m.hi };
-        let next = put_missing(out, at, m.nonterminal, string);
+        let next = put_missing(rt, out, at, m.nonterminal, string)?;
         let p = Prediction {
             nonterminal: m.nonterminal,
             string,
             production: 65536,
         };
-        return put_behind(out, next, limit, c, table, p);
+        return put_behind(rt, out, next, limit, c, table, p);
     }
-    put_refused(out, at, m.refusal)
+    put_refused(rt, out, at, m.refusal)
 }
 
 // The greatest terminal index of a table, whose second number says how many there are: its strings are packed for it.
@@ -144,46 +173,57 @@ fn greatest(table: &[u8]) -> u64 {
 }
 
 // A line that is no row, or none in pairs of digits where it is the first.
-fn put_line(out: &mut [u8], at: usize, line: u64, what: &[u8]) -> usize
+fn put_line(rt: &impl Print, out: &mut [u8], at: usize, line: u64, what: &[u8]) -> io::Result<usize>
     requires { Waits at out.old }
-    ensures { Waits result out.new }
+    ensures ok { IfOk result (λ next. Waits next out.new) }
+    ensures err { OnErr result (Waits 0 out.new) }
 {
-    let next = put_text(out, at, b"line ");
-    let next = put_number(out, next, line);
-    put_text(out, next, what)
+    let next = put_text(rt, out, at, b"line ")?;
+    let next = put_number(rt, out, next, line)?;
+    put_text(rt, out, next, what)
 }
 
 // The marking of the lines from a place on, behind the first.
-fn put_rows(out: &mut [u8], at: usize, text: &[u8], from: usize, input: &[u8], h: Before) -> usize
+fn put_rows(
+    rt: &impl Print,
+    out: &mut [u8],
+    at: usize,
+    text: &[u8],
+    from: usize,
+    input: &[u8],
+    h: Before,
+) -> io::Result<usize>
     requires { Waits at out.old }
-    ensures { Waits result out.new }
+    ensures ok { IfOk result (λ next. Waits next out.new) }
+    ensures err { OnErr result (Waits 0 out.new) }
 {
     let next = h.next;
     let table = rest(input, next);
     let mut rows = [0u64; 16384];
     let read = read_rows(text, from, greatest(table), &mut rows);
     if read.bad != 0 {
-        return put_line(out, at, read.bad, b" is no row\n");
+        return put_line(rt, out, at, read.bad, b" is no row\n");
     }
     let count = read.count;
-    put_answer(out, at, h.first, h.second, table, &rows[..count])
+    put_answer(rt, out, at, h.first, h.second, table, &rows[..count])
 }
 
 // All lines for a text.
-pub fn put_text_marked(out: &mut [u8], at: usize, text: &[u8]) -> usize
+pub fn put_text_marked(rt: &impl Print, out: &mut [u8], at: usize, text: &[u8]) -> io::Result<usize>
     requires { Waits at out.old }
-    ensures { Waits result out.new }
+    ensures ok { IfOk result (λ next. Waits next out.new) }
+    ensures err { OnErr result (Waits 0 out.new) }
 {
     let end = find(text, 0, b'\n');
     let mut input = [0u8; 16384];
     let pairs = read_pairs(&text[0..end], &mut input);
     let count = pairs.count;
     if !pairs.ok {
-        return put_line(out, at, 1, b" is no table\n");
+        return put_line(rt, out, at, 1, b" is no table\n");
     }
     let h = read_before(&input[..count]);
     if h.refusal != 0 {
-        return put_refused(out, at, h.refusal);
+        return put_refused(rt, out, at, h.refusal);
     }
-    put_rows(out, at, text, end + 1, &input[..count], h)
+    put_rows(rt, out, at, text, end + 1, &input[..count], h)
 }

@@ -17,7 +17,7 @@ pub fn digit(b: u8) -> u64 {
     match b {
         b'0'..=b'9' => wide(b) - 48,
         b'a'..=b'f' => wide(b) - 87,
-        b'_a'..=b'_f' => wide(b) - 55,
+        b'A'..=b'F' => wide(b) - 55,
         _ => 16,
     }
 }

@@ -64,15 +64,13 @@ fn number_at(line: &[u8], at: usize) -> Token {
 }
 
 fn token_at(line: &[u8], at: usize) -> Token {
-    let mut i = at;
-    while i < line.len() {
+    for i in at..line.len() {
         if line[i] == b'|' {
             return Token::Bar { next: i + 1 };
         }
         if line[i] != b' ' {
             return number_at(line, i);
         }
-        i += 1;
     }
     Token::End
 }
@@ -124,14 +122,12 @@ pub fn find(text: &[u8], at: usize, b: u8) -> usize
     requires { at ≤ length text.now }
     ensures { (at ≤ result) × (result ≤ length text.now) }
 {
-    let mut i = at;
-    while i < text.len() {
+    for i in at..text.len() {
         if text[i] == b {
             return i;
         }
-        i += 1;
     }
-    i
+    text.len()
 }
 
 // Whether a text is this word.
@@ -139,12 +135,10 @@ pub fn is(text: &[u8], word: &[u8]) -> bool {
     if text.len() != word.len() {
         return false;
     }
-    let mut i = 0;
-    while i < text.len() {
+    for i in 0..text.len() {
         if text[i] != word[i] {
             return false;
         }
-        i += 1;
     }
     true
 }

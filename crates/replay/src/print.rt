@@ -1,52 +1,53 @@
 // Answers as text, a line each.
-use libc::STDOUT_FILENO;
+use std::io;
 
 // Text and the end of the line.
-pub fn told(text: &[u8]) {
-    io::write_all(STDOUT_FILENO, text);
-    io::write_all(STDOUT_FILENO, b"\n");
+pub fn told(rt: &impl Print, text: &[u8]) -> io::Result<()> {
+    rt.write_all(text)?;
+    rt.write_all(b"\n")
 }
 
-pub fn decimal(n: u64) {
-    io::print_decimal(STDOUT_FILENO, n);
+pub fn decimal(rt: &impl Print, n: u64) -> io::Result<()> {
+    rt.print(n)
 }
 
 // Says where a line was not read.
-pub fn readable(ran: bool) {
+pub fn readable(rt: &impl Print, ran: bool) -> io::Result<()> {
     if !ran {
-        told(b"unreadable");
+        told(rt, b"unreadable")?;
     }
+    Ok(())
 }
 
-pub fn refused(n: u64) {
-    io::write_all(STDOUT_FILENO, b"refused ");
-    decimal(n);
-    told(b"");
+pub fn refused(rt: &impl Print, n: u64) -> io::Result<()> {
+    rt.write_all(b"refused ")?;
+    decimal(rt, n)?;
+    told(rt, b"")
 }
 
-pub fn truth(b: bool) {
+pub fn truth(rt: &impl Print, b: bool) -> io::Result<()> {
     if b {
-        told(b"true");
+        told(rt, b"true")
     } else {
-        told(b"false");
+        told(rt, b"false")
     }
 }
 
 // A comma before every part but the first.
-fn parted(i: usize) {
+fn parted(rt: &impl Print, i: usize) -> io::Result<()> {
     if 0 < i {
-        io::write_all(STDOUT_FILENO, b",");
+        rt.write_all(b",")?;
     }
+    Ok(())
 }
 
 // Words of 16 digits.
-pub fn words(ws: &[u64]) {
-    let mut i = 0;
-    while i < ws.len() {
-        parted(i);
-        io::print_hex(STDOUT_FILENO, ws[i], 16);
-        i += 1;
+pub fn words(rt: &impl Print, ws: &[u64]) -> io::Result<()> {
+    for (i, w) in ws.iter().enumerate() {
+        parted(rt, i)?;
+        print!(rt; "{w:016x}")?;
     }
+    Ok(())
 }
 
 fn wide(x: u16) -> u64 {
@@ -54,12 +55,11 @@ fn wide(x: u16) -> u64 {
 }
 
 // A space, and the slots in decimal.
-pub fn slots(xs: &[u16]) {
-    io::write_all(STDOUT_FILENO, b" ");
-    let mut i = 0;
-    while i < xs.len() {
-        parted(i);
-        decimal(wide(xs[i]));
-        i += 1;
+pub fn slots(rt: &impl Print, xs: &[u16]) -> io::Result<()> {
+    rt.write_all(b" ")?;
+    for (i, x) in xs.iter().enumerate() {
+        parted(rt, i)?;
+        decimal(rt, wide(*x))?;
     }
+    Ok(())
 }

@@ -3,9 +3,11 @@
 #![tactic(auto)]
 
 use abnf::grammar::{TableAnswer, read_abnf};
-use libc::{STDIN_FILENO, STDOUT_FILENO};
 use replay::{decimal, read_column, told};
 use replay_tables::{MARK_BYTE, kept, pairs};
+use std::io;
+use std::io::Read;
+use streams::read_full;
 
 // What the line before a text says.
 #[derive(Clone, Copy)]
@@ -30,87 +32,87 @@ fn wide(x: u16) -> u64 {
 }
 
 // A refusal and its place; 10 has none.
-fn refused(number: u16, place: u16) {
-    io::write_all(STDOUT_FILENO, b"refused ");
-    decimal(wide(number));
+fn refused(rt: &impl Print, number: u16, place: u16) -> io::Result<()> {
+    rt.write_all(b"refused ")?;
+    decimal(rt, wide(number))?;
     if number != 10 {
-        io::write_all(STDOUT_FILENO, b" at ");
-        decimal(wide(place));
+        rt.write_all(b" at ")?;
+        decimal(rt, wide(place))?;
     }
+    Ok(())
 }
 
-fn told_answer(a: TableAnswer, table: &[u8]) {
+fn told_answer(rt: &impl Print, a: TableAnswer, table: &[u8]) -> io::Result<()> {
     match a {
         TableAnswer::Written(n) => {
-            pairs(table, n);
-            told(b"");
-            kept(table, n);
+            pairs(rt, table, n)?;
+            told(rt, b"")?;
+            kept(rt, table, n)
         }
         TableAnswer::Refused { number, place } => {
-            refused(number, place);
-            told(b"");
-            kept(table, 0);
+            refused(rt, number, place)?;
+            told(rt, b"")?;
+            kept(rt, table, 0)
         }
     }
 }
 
 // The answer to a text with so many of some bytes lent; false where they are more than there are.
-fn answer(text: &[u8], table: &mut [u8], room: usize) -> bool {
+fn answer(rt: &impl Print, text: &[u8], table: &mut [u8], room: usize) -> io::Result<bool> {
     if table.len() < room {
-        return false;
+        return Ok(false);
     }
     let a = read_abnf(text, &mut table[0..room]);
-    told_answer(a, table);
-    true
+    told_answer(rt, a, table)?;
+    Ok(true)
 }
 
-fn run(text: &[u8], room: usize) -> bool {
+fn run(rt: &impl Print, text: &[u8], room: usize) -> io::Result<bool> {
     let mut table = [MARK_BYTE; 4096];
-    answer(text, &mut table, room)
+    answer(rt, text, &mut table, room)
 }
 
 // Reads the bytes of a text and runs it; false where they are not there.
-fn run_text(h: Case, text: &mut [u8]) -> bool {
+fn run_text(rt: &impl Print, input: &mut impl Read, h: Case, text: &mut [u8]) -> io::Result<bool> {
     let n = h.length;
     if text.len() < n {
-        return false;
+        return Ok(false);
     }
-    if io::read_full(STDIN_FILENO, &mut text[0..n]) < n {
-        return false;
+    if read_full(input, &mut text[0..n])? < n {
+        return Ok(false);
     }
-    run(&text[0..n], h.room)
+    run(rt, &text[0..n], h.room)
 }
 
 // The next text; false where there is none, or it is unreadable.
-fn next(text: &mut [u8]) -> bool {
+fn next(rt: &impl Print, input: &mut impl Read, text: &mut [u8]) -> io::Result<bool> {
     let mut line = [0u8; 10];
-    if io::read_full(STDIN_FILENO, &mut line) == 0 {
-        return false;
+    if read_full(input, &mut line)? == 0 {
+        return Ok(false);
     }
     let h = head(&line[0..9]);
     if !h.ok {
-        told(b"unreadable");
-        return false;
+        told(rt, b"unreadable")?;
+        return Ok(false);
     }
-    if run_text(h, text) {
-        return true;
+    if run_text(rt, input, h, text)? {
+        return Ok(true);
     }
-    told(b"unreadable");
-    false
+    told(rt, b"unreadable")?;
+    Ok(false)
 }
 
 // At most a thousand texts.
-fn each(text: &mut [u8]) {
-    let mut i: u64 = 0;
-    while i < 1000 {
-        if !next(text) {
-            return;
+fn each(rt: &impl Print, input: &mut impl Read, text: &mut [u8]) -> io::Result<()> {
+    for _ in 0..1000 {
+        if !next(rt, input, text)? {
+            return Ok(());
         }
-        i += 1;
     }
+    Ok(())
 }
 
-fn main() {
-    let mut text = io::large_buffer();
-    each(&mut text);
+fn main(rt: HostRuntime) -> io::Result<()> {
+    let mut text = [0u8; 65536];
+    each(&rt, &mut rt.reader(), &mut text)
 }

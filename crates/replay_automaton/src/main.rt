@@ -3,38 +3,46 @@
 #![tactic(auto)]
 
 use automaton::automata;
-use libc::STDIN_FILENO;
 use replay::{find, is, read_column, readable, refused, told};
 use replay_tables::{MARK, MARK_BYTE, kept, narrowed, pairs, wiped};
+use std::io;
 
 fn index(x: u64) -> usize {
     x as usize
 }
 
 // The bytes that were written, and that those behind them are as they came; or the refusal, and that all are.
-fn told_answer(refusal: u64, count: usize, out: &[u8]) {
+fn told_answer(rt: &impl Print, refusal: u64, count: usize, out: &[u8]) -> io::Result<()> {
     if refusal != 0 {
-        refused(refusal);
-        kept(out, 0);
-        return;
+        refused(rt, refusal)?;
+        kept(rt, out, 0)?;
+        return Ok(());
     }
-    pairs(out, count);
-    told(b"");
-    kept(out, count);
+    pairs(rt, out, count)?;
+    told(rt, b"")?;
+    kept(rt, out, count)
 }
 
 // A refusal by 1 to 9 leaves every word as it came, and 10 for too few bytes does not; else there are zeros before the marks.
-fn told_words(refusal: u64, words: &[u64]) {
+fn told_words(rt: &impl Print, refusal: u64, words: &[u64]) -> io::Result<()> {
     let some = (refusal == 0) | (9 < refusal);
     if !wiped(words, some) {
-        told(b"lent words changed");
+        told(rt, b"lent words changed")?;
     }
+    Ok(())
 }
 
 // Runs a case with so many of the bytes lent; false where there are not as many.
-fn answer(limit: u64, c: u64, room: usize, table: &[u8], out: &mut [u8]) -> bool {
+fn answer(
+    rt: &impl Print,
+    limit: u64,
+    c: u64,
+    room: usize,
+    table: &[u8],
+    out: &mut [u8],
+) -> io::Result<bool> {
     if out.len() < room {
-        return false;
+        return Ok(false);
     }
     let mut result = [MARK; 16384];
     let mut scratch = [MARK; 16384];
@@ -46,28 +54,28 @@ fn answer(limit: u64, c: u64, room: usize, table: &[u8], out: &mut [u8]) -> bool
         &mut result,
         &mut scratch,
     );
-    told_answer(a.refusal, index(a.bytes), out);
-    told_words(a.refusal, &result);
-    told_words(a.refusal, &scratch);
-    true
+    told_answer(rt, a.refusal, index(a.bytes), out)?;
+    told_words(rt, a.refusal, &result)?;
+    told_words(rt, a.refusal, &scratch)?;
+    Ok(true)
 }
 
 // Runs a case; false where its numbers are none.
-fn run_table(limit: u64, c: u64, room: u64, xs: &[u64]) -> bool {
+fn run_table(rt: &impl Print, limit: u64, c: u64, room: u64, xs: &[u64]) -> io::Result<bool> {
     let mut table = [0u8; 512];
     let mut out = [MARK_BYTE; 4096];
     let n = narrowed(xs, &mut table);
     if n != xs.len() {
-        return false;
+        return Ok(false);
     }
-    answer(limit, c, index(room), &table[..n], &mut out)
+    answer(rt, limit, c, index(room), &table[..n], &mut out)
 }
 
 // Runs the case of a line; false where it is none.
-fn run(line: &[u8]) -> bool {
+fn run(rt: &impl Print, line: &[u8]) -> io::Result<bool> {
     let end = find(line, 0, b' ');
     if !is(&line[0..end], b"automata") {
-        return false;
+        return Ok(false);
     }
     let mut head = [0u64; 4];
     let mut xs = [0u64; 512];
@@ -75,23 +83,24 @@ fn run(line: &[u8]) -> bool {
     let x = read_column(line, h.next, &mut xs);
     let count = x.count;
     if !h.ok || h.last || h.count != 3 || !x.ok || !x.last {
-        return false;
+        return Ok(false);
     }
-    run_table(head[0], head[1], head[2], &xs[..count])
+    run_table(rt, head[0], head[1], head[2], &xs[..count])
 }
 
-fn each(text: &[u8]) {
+fn each(rt: &impl Print, text: &[u8]) -> io::Result<()> {
     let mut at = 0;
     while at < text.len() {
         let end = find(text, at, b'\n');
-        readable(run(&text[at..end]));
+        readable(rt, run(rt, &text[at..end])?)?;
         at = end + 1;
     }
+    Ok(())
 }
 
 // It reads no more than 65,536 bytes.
-fn main() {
-    let mut text = io::large_buffer();
-    let n = io::read_full(STDIN_FILENO, &mut text);
-    each(&text[..n]);
+fn main(rt: HostRuntime) -> io::Result<()> {
+    let mut text = [0u8; 65536];
+    let n = streams::read_full(&mut rt.reader(), &mut text)?;
+    each(&rt, &text[..n])
 }

@@ -4,8 +4,10 @@
 
 ghost use Rattle.lines.specs.Waits.{Waits};
 
-use libc::STDIN_FILENO;
 use replay::{read_column, told};
+use std::io;
+use std::io::Read;
+use streams::read_full;
 
 #[derive(Clone, Copy)]
 enum Length {
@@ -24,65 +26,71 @@ fn size(line: &[u8]) -> Length {
 }
 
 // The listing of an input, behind its name.
-fn list(name: &[u8], input: &[u8], out: &mut [u8])
+fn list(rt: &impl Print, name: &[u8], text: &[u8], out: &mut [u8]) -> io::Result<()>
     requires { Waits 0 out.old }
 {
-    let next = lines::put_text(out, 0, b"case ");
-    let next = lines::put_text(out, next, name);
-    let next = lines::put(out, next, b'\n');
-    let next = lines::put_listing(out, next, input);
-    lines::flush(out, next);
+    let next = lines::put_text(rt, out, 0, b"case ")?;
+    let next = lines::put_text(rt, out, next, name)?;
+    let next = lines::put(rt, out, next, b'\n')?;
+    let next = lines::put_listing(rt, out, next, text)?;
+    lines::flush(rt, out, next)
 }
 
 // Reads so many bytes and lists them; false where they are not there.
-fn run(name: &[u8], n: usize, input: &mut [u8], out: &mut [u8]) -> bool
+fn run(
+    rt: &impl Print,
+    input: &mut impl Read,
+    name: &[u8],
+    n: usize,
+    text: &mut [u8],
+    out: &mut [u8],
+) -> io::Result<bool>
     requires { Waits 0 out.old }
 {
-    if input.len() < n {
-        return false;
+    if text.len() < n {
+        return Ok(false);
     }
-    if io::read_full(STDIN_FILENO, &mut input[0..n]) < n {
-        return false;
+    if read_full(input, &mut text[0..n])? < n {
+        return Ok(false);
     }
-    list(name, &input[0..n], out);
-    true
+    list(rt, name, &text[0..n], out)?;
+    Ok(true)
 }
 
 // The next case; false where there is none, or it is unreadable.
-fn next(input: &mut [u8], out: &mut [u8]) -> bool
+fn next(rt: &impl Print, input: &mut impl Read, text: &mut [u8], out: &mut [u8]) -> io::Result<bool>
     requires { Waits 0 out.old }
 {
     let mut line = [0u8; 9];
-    if io::read_full(STDIN_FILENO, &mut line) == 0 {
-        return false;
+    if read_full(input, &mut line)? == 0 {
+        return Ok(false);
     }
     let named = size(&line[0..8]);
     let Length::Bytes(n) = named else {
-        told(b"unreadable");
-        return false;
+        told(rt, b"unreadable")?;
+        return Ok(false);
     };
-    if run(&line[0..3], n, input, out) {
-        return true;
+    if run(rt, input, &line[0..3], n, text, out)? {
+        return Ok(true);
     }
-    told(b"unreadable");
-    false
+    told(rt, b"unreadable")?;
+    Ok(false)
 }
 
 // At most a thousand cases.
-fn each(input: &mut [u8], out: &mut [u8])
+fn each(rt: &impl Print, input: &mut impl Read, text: &mut [u8], out: &mut [u8]) -> io::Result<()>
     requires { Waits 0 out.old }
 {
-    let mut i: u64 = 0;
-    while i < 1000 {
-        if !next(input, out) {
-            return;
+    for _ in 0..1000 {
+        if !next(rt, input, text, out)? {
+            return Ok(());
         }
-        i += 1;
     }
+    Ok(())
 }
 
-fn main() {
-    let mut input = [0u8; 16384];
-    let mut out = io::buffer();
-    each(&mut input, &mut out);
+fn main(rt: HostRuntime) -> io::Result<()> {
+    let mut text = [0u8; 16384];
+    let mut out = [0u8; 4096];
+    each(&rt, &mut rt.reader(), &mut text, &mut out)
 }

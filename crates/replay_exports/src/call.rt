@@ -4,8 +4,16 @@ ghost use Rattle.std.specs.Prelude.{◌≤◌};
 
 use crate::print::{MARK, line_3, line_17, words_42};
 use exports::{jomankitu_lookahead_sets, jomankitu_set_of};
+use std::io;
 
-fn lookahead_sets(k: u64, c: u64, table: &[u8], room: usize, n: usize)
+fn lookahead_sets(
+    rt: &impl Print,
+    k: u64,
+    c: u64,
+    table: &[u8],
+    room: usize,
+    n: usize,
+) -> io::Result<()>
     requires { (room ≤ 42) × (n ≤ 17) }
 {
     let mut result = [MARK; 42];
@@ -19,50 +27,50 @@ fn lookahead_sets(k: u64, c: u64, table: &[u8], room: usize, n: usize)
         &mut scratch,
         &mut answer[0..n],
     );
-    line_17(b"lookahead_sets", r, &answer);
-    words_42(&result);
-    words_42(&scratch);
+    line_17(rt, b"lookahead_sets", r, &answer)?;
+    words_42(rt, &result)?;
+    words_42(rt, &scratch)
 }
 
 // In a result of 42 words.
-fn set_of(kind: usize, number: usize, n: usize)
+fn set_of(rt: &impl Print, kind: usize, number: usize, n: usize) -> io::Result<()>
     requires { n ≤ 3 }
 {
     let mut out = [MARK; 3];
     let r = jomankitu_set_of(42, kind, number, 2, 3, 1, 2, &mut out[0..n]);
-    line_3(b"set_of", r, &out);
+    line_3(rt, b"set_of", r, &out)
 }
 
 // The record and the sets; a room that is too small; words too few for the sets.
-fn enough(table: &[u8]) {
-    lookahead_sets(2, 2, table, 42, 17);
-    lookahead_sets(2, 1, table, 42, 16);
-    lookahead_sets(2, 2, table, 39, 16);
-    lookahead_sets(2, 2, table, 0, 16);
+fn enough(rt: &impl Print, table: &[u8]) -> io::Result<()> {
+    lookahead_sets(rt, 2, 2, table, 42, 17)?;
+    lookahead_sets(rt, 2, 1, table, 42, 16)?;
+    lookahead_sets(rt, 2, 2, table, 39, 16)?;
+    lookahead_sets(rt, 2, 2, table, 0, 16)
 }
 
 // Too few words for the record: what comes before 10 is refused first, and 11 is not.
-fn too_few(table: &[u8]) {
-    lookahead_sets(11, 2, table, 42, 15);
-    lookahead_sets(2, 0, table, 42, 0);
-    lookahead_sets(2, 2, &table[0..0], 42, 15);
-    lookahead_sets(2, 1, table, 42, 15);
-    lookahead_sets(2, 2, table, 42, 15);
+fn too_few(rt: &impl Print, table: &[u8]) -> io::Result<()> {
+    lookahead_sets(rt, 11, 2, table, 42, 15)?;
+    lookahead_sets(rt, 2, 0, table, 42, 0)?;
+    lookahead_sets(rt, 2, 2, &table[0..0], 42, 15)?;
+    lookahead_sets(rt, 2, 1, table, 42, 15)?;
+    lookahead_sets(rt, 2, 2, table, 42, 15)
 }
 
 // The first and the last of each kind, and no such set.
-fn parts() {
-    set_of(0, 0, 3);
-    set_of(1, 2, 3);
-    set_of(2, 1, 3);
-    set_of(3, 0, 3);
-    set_of(3, 1, 3);
-    set_of(0, 0, 1);
+fn parts(rt: &impl Print) -> io::Result<()> {
+    set_of(rt, 0, 0, 3)?;
+    set_of(rt, 1, 2, 3)?;
+    set_of(rt, 2, 1, 3)?;
+    set_of(rt, 3, 0, 3)?;
+    set_of(rt, 3, 1, 3)?;
+    set_of(rt, 0, 0, 1)
 }
 
-pub fn run() {
+pub fn run(rt: &impl Print) -> io::Result<()> {
     let table = [2u8, 2, 0, 3, 0, 2, 11, 2, 1, 1, 13, 1, 0];
-    enough(&table);
-    too_few(&table);
-    parts();
+    enough(rt, &table)?;
+    too_few(rt, &table)?;
+    parts(rt)
 }

@@ -6,8 +6,9 @@ use crate::print::{MARK, bytes_16, line_2, line_5, line_258, words_42};
 use exports::automata::jomankitu_automata;
 use exports::mark::jomankitu_mark;
 use exports::needed::jomankitu_needed_k;
+use std::io;
 
-fn needed_k(limit: u64, table: &[u8], n: usize)
+fn needed_k(rt: &impl Print, limit: u64, table: &[u8], n: usize) -> io::Result<()>
     requires { n ≤ 258 }
 {
     let mut result = [MARK; 42];
@@ -21,13 +22,13 @@ fn needed_k(limit: u64, table: &[u8], n: usize)
         &mut scratch,
         &mut answer[0..n],
     );
-    line_258(b"needed_k", r, &answer);
-    words_42(&result);
-    words_42(&scratch);
+    line_258(rt, b"needed_k", r, &answer)?;
+    words_42(rt, &result)?;
+    words_42(rt, &scratch)
 }
 
 // Into 16 bytes or fewer, of which the automaton takes 15.
-fn automata(table: &[u8], room: usize)
+fn automata(rt: &impl Print, table: &[u8], room: usize) -> io::Result<()>
     requires { room ≤ 16 }
 {
     let mut out = [7u8; 16];
@@ -43,13 +44,13 @@ fn automata(table: &[u8], room: usize)
         &mut scratch,
         &mut answer,
     );
-    line_2(b"automata", r, &answer);
-    bytes_16(&out);
-    words_42(&result);
-    words_42(&scratch);
+    line_2(rt, b"automata", r, &answer)?;
+    bytes_16(rt, &out)?;
+    words_42(rt, &result)?;
+    words_42(rt, &scratch)
 }
 
-fn mark(table: &[u8], rows: &[u64], n: usize)
+fn mark(rt: &impl Print, table: &[u8], rows: &[u64], n: usize) -> io::Result<()>
     requires { n ≤ 5 }
 {
     let mut result = [MARK; 42];
@@ -64,27 +65,27 @@ fn mark(table: &[u8], rows: &[u64], n: usize)
         &mut scratch,
         &mut answer[0..n],
     );
-    line_5(b"mark", r, &answer);
-    words_42(&result);
-    words_42(&scratch);
+    line_5(rt, b"mark", r, &answer)?;
+    words_42(rt, &result)?;
+    words_42(rt, &scratch)
 }
 
 // Both rows, in width 4: accepted; the first alone: a string is missing; one and a half: the second row is bad; too few words for the answer.
-fn marks(table: &[u8]) {
+fn marks(rt: &impl Print, table: &[u8]) -> io::Result<()> {
     let high: u64 = 4755801206503243776;
     let rows = [0u64, 101, high, 1, 0, 85, high, 0];
-    mark(table, &rows, 5);
-    mark(table, &rows[0..4], 4);
-    mark(table, &rows[0..6], 4);
-    mark(table, &rows, 3);
+    mark(rt, table, &rows, 5)?;
+    mark(rt, table, &rows[0..4], 4)?;
+    mark(rt, table, &rows[0..6], 4)?;
+    mark(rt, table, &rows, 3)
 }
 
-pub fn run() {
+pub fn run(rt: &impl Print) -> io::Result<()> {
     let table = [1u8, 2, 0, 2, 0, 2, 11, 11, 0, 2, 11, 13];
-    needed_k(2, &table, 258);
-    needed_k(1, &table, 258);
-    needed_k(2, &table, 257);
-    automata(&table, 16);
-    automata(&table, 14);
-    marks(&table);
+    needed_k(rt, 2, &table, 258)?;
+    needed_k(rt, 1, &table, 258)?;
+    needed_k(rt, 2, &table, 257)?;
+    automata(rt, &table, 16)?;
+    automata(rt, &table, 14)?;
+    marks(rt, &table)
 }

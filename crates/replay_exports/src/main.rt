@@ -8,9 +8,11 @@ mod print;
 mod sets;
 mod strings;
 
-fn main() {
-    strings::run();
-    sets::run();
-    call::run();
-    decide::run();
+use std::io;
+
+fn main(rt: HostRuntime) -> io::Result<()> {
+    strings::run(&rt)?;
+    sets::run(&rt)?;
+    call::run(&rt)?;
+    decide::run(&rt)
 }

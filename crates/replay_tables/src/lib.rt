@@ -4,8 +4,8 @@
 
 ghost use Rattle.io.specs.Counts.{IsPrefixLen};
 
-use libc::STDOUT_FILENO;
 use replay::told;
+use std::io;
 
 pub const MARK: u64 = 0x5555_5555_5555_5555;
 
@@ -15,14 +15,12 @@ pub const MARK_BYTE: u8 = 0x55;
 fn front(ws: &[u64], x: u64) -> usize
     ensures { IsPrefixLen result ws.now }
 {
-    let mut i = 0;
-    while i < ws.len() {
+    for i in 0..ws.len() {
         if ws[i] != x {
             return i;
         }
-        i += 1;
     }
-    i
+    ws.len()
 }
 
 // Whether the words are zeros and then marks: none of one, or none of the other, where they should not be.
@@ -55,35 +53,29 @@ pub fn narrowed(xs: &[u64], into: &mut [u8]) -> usize
 
 // Whether all bytes from a place on are marks.
 fn all_marks(bytes: &[u8], from: usize) -> bool {
-    let mut i = from;
-    while i < bytes.len() {
+    for i in from..bytes.len() {
         if bytes[i] != MARK_BYTE {
             return false;
         }
-        i += 1;
     }
     true
 }
 
-fn byte(b: u8) -> u64 {
-    b as u64
-}
-
 // The first bytes of a table as pairs; as many as there are.
-pub fn pairs(table: &[u8], count: usize) {
-    let mut i = 0;
-    while i < table.len() {
+pub fn pairs(rt: &impl Print, table: &[u8], count: usize) -> io::Result<()> {
+    for (i, b) in table.iter().enumerate() {
         if count <= i {
-            return;
+            return Ok(());
         }
-        io::print_hex(STDOUT_FILENO, byte(table[i]), 2);
-        i += 1;
+        print!(rt; "{b:02x}")?;
     }
+    Ok(())
 }
 
 // Every byte behind the table, and on a refusal every byte, is as it came.
-pub fn kept(table: &[u8], written: usize) {
+pub fn kept(rt: &impl Print, table: &[u8], written: usize) -> io::Result<()> {
     if !all_marks(table, written) {
-        told(b"lent bytes changed");
+        told(rt, b"lent bytes changed")?;
     }
+    Ok(())
 }

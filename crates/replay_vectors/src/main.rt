@@ -1,32 +1,33 @@
 // Runs stored cases of single operations through the public functions, a case a line, and prints each answer on a line.
 #![tactic(auto)]
 
-use libc::STDIN_FILENO;
 use replay::{find, readable};
+use std::io;
 
 mod sets;
 mod strings;
 
 // Runs the case of a line, of a string or of sets; false where it is unreadable.
-fn run(line: &[u8]) -> bool {
-    if strings::run(line) {
-        return true;
+fn run(rt: &impl Print, line: &[u8]) -> io::Result<bool> {
+    if strings::run(rt, line)? {
+        return Ok(true);
     }
-    sets::run(line)
+    sets::run(rt, line)
 }
 
-fn each(text: &[u8]) {
+fn each(rt: &impl Print, text: &[u8]) -> io::Result<()> {
     let mut at = 0;
     while at < text.len() {
         let end = find(text, at, b'\n');
-        readable(run(&text[at..end]));
+        readable(rt, run(rt, &text[at..end])?)?;
         at = end + 1;
     }
+    Ok(())
 }
 
 // It reads no more than 65,536 bytes.
-fn main() {
-    let mut text = io::large_buffer();
-    let n = io::read_full(STDIN_FILENO, &mut text);
-    each(&text[..n]);
+fn main(rt: HostRuntime) -> io::Result<()> {
+    let mut text = [0u8; 65536];
+    let n = streams::read_full(&mut rt.reader(), &mut text)?;
+    each(&rt, &text[..n])
 }
