@@ -89,13 +89,13 @@ abbrev pub rulename : List ℕ → Piece
 rulename [] bs rest = ⊥
 rulename (b ∷ w) bs rest = (mid : List ℕ) × (bs ≡ b ∷ mid) × (letter b ≡ true) × spelled name_byte w mid rest
 
--- char_val = DQUOTE 1*(%x20-21 / %x23-7E) DQUOTE; the RFC has * for 1*
+-- char-val = DQUOTE 1*(%x20-21 / %x23-7E) DQUOTE; the RFC has * for 1*
 abbrev pub char_val : List ℕ → Piece
 char_val [] bs rest = ⊥
 char_val (b ∷ w) bs rest = (char 34 ⨾ spelled literal_byte (b ∷ w) ⨾ char 34) bs rest
 
 abbrev mutual
-  -- element = rulename / option / char_val
+  -- element = rulename / option / char-val
   pub element : Part → Piece
   element (named w) = rulename w
   element (quoted w) = char_val w
