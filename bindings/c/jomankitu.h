@@ -1,4 +1,4 @@
-/* The library for C: target/staticlib/libexports.a (rt staticlib exports), for x86-64 Linux.
+/* The library for C: target/staticlib/libexports.a (bindings/archive), for x86-64 Linux.
 
    A list is passed as a pointer and the number of its elements; one without elements may be NULL and 0. No two lists of one call may overlap
    where one of them is written. Each function returns the number of a refusal, 0 where there is none (docs: the table of refusals). Its other

@@ -1,4 +1,4 @@
-//! Tells the linker where `rt staticlib exports` left the archive: the folder named by JOMANKITU_LIB, or target/staticlib of this repository.
+//! Tells the linker where `bindings/archive` left the archive: the folder named by JOMANKITU_LIB, or target/staticlib of this repository.
 fn main() {
     println!("cargo:rerun-if-env-changed=JOMANKITU_LIB");
     let here = std::env::var("CARGO_MANIFEST_DIR").unwrap_or_default();

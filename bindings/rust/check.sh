@@ -6,13 +6,13 @@
 # On x86-64 this takes cargo, or rustc and a C linker where there is no cargo. On an Arm machine it takes Debian's rustc-web, with the package
 # libstd-rust-web-dev:amd64 unpacked beside it (JOMANKITU_SYSROOT names its folder usr/, where that is not rustc's own), gcc-x86-64-linux-gnu,
 # libc6-dev-amd64-cross and qemu-user. The crate has no dependencies, so nothing is fetched. JOMANKITU_LIB names the folder of an archive that was
-# built before.
+# built before; on an Arm machine it must, since Rattle's toolchain is for x86-64 alone.
 set -euo pipefail
 cd "$(dirname "$0")/../.."
 target=x86_64-unknown-linux-gnu
 room=target/rust
 mkdir -p "$room"
-[ -n "${JOMANKITU_LIB:-}" ] || rt staticlib exports >"$room/say" 2>&1 || { cat "$room/say" >&2; exit 1; }
+[ -n "${JOMANKITU_LIB:-}" ] || bindings/archive >"$room/say" 2>&1 || { cat "$room/say" >&2; exit 1; }
 export JOMANKITU_LIB=${JOMANKITU_LIB:-$PWD/target/staticlib}
 
 # The crate and its tests by rustc alone, as cargo and build.rs have it; LINKER links, and what follows it runs the program.

@@ -1,4 +1,4 @@
-//! Safe calls over the archive of `rt staticlib exports`, which is for x86-64 Linux. The archive tests everything that it is given and refuses by
+//! Safe calls over the archive that `bindings/archive` makes, which is for x86-64 Linux. The archive tests everything that it is given and refuses by
 //! number, so these wrappers only turn slices into pointers and lengths, and answers into `Result`s; a refusal's number is the error.
 //!
 //! A set is words: a count word, the members in order, two words each, then zeros. The lower half of the count word is the number of members, the upper
