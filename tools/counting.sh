@@ -1,13 +1,12 @@
 # For the scripts beside this one: the static library, programs over it for x86-64 by one compiler, the toolchain's own, and the instructions of a run.
 # Sourced, from the top of the repository; $room is a folder that is removed at the end. JOMANKITU_LIB names the folder of an archive that was built before.
 #
-# On another processor programs run under the toolchain's emulator, whose trace names each block of instructions that is run. A run with blocks of one
-# instruction tells where instructions begin, so that those of each block are known: a count is exact and repeats. On x86-64 perf counts, or valgrind
-# where perf has no counter; its counts are exact and repeat, too, but are not the emulator's: compare within one way of counting.
-home=$(cd "$(dirname "$(rt doc)")/.." && pwd -P)
-own=$home/on/$(uname -m)
-tools=$own/toolchain
-emulator=$tools/bin/qemu-x86_64
+# Where an emulator, qemu-x86_64, is on the path, its trace names each block of instructions that is run. A run with blocks of one instruction tells where
+# instructions begin, so that those of each block are known: a count is exact and repeats. Else perf counts, or valgrind where perf has no counter; its
+# counts are exact and repeat, too, but are not the emulator's: compare within one way of counting.
+kit=$(dirname "$(rt doc)")
+tools=$kit/toolchain
+emulator=$(command -v qemu-x86_64 || true)
 loader=("$tools/lib/ld-linux-x86-64.so.2" --library-path "$tools/lib")
 input=/dev/null # what a program reads
 room=$(mktemp -d)
@@ -15,16 +14,16 @@ trap 'rm -rf "$room"' EXIT
 
 library=${JOMANKITU_LIB:-target/staticlib}/libexports.a
 archive() { # proves the library and leaves it in $library
-    [ -n "${JOMANKITU_LIB:-}" ] || rt staticlib exports >"$room/say" 2>&1 || { cat "$room/say" >&2; exit 1; }
+    [ -n "${JOMANKITU_LIB:-}" ] || bindings/archive >"$room/say" 2>&1 || { cat "$room/say" >&2; exit 1; }
 }
 compile() { # FILE OBJECT FLAG..
     "$tools/bin/clang" --target=x86_64-unknown-linux-gnu -O2 -fPIE -Wall -Wextra "${@:3}" -c "$1" -o "$room/$2"
 }
 link() { # PROGRAM FILE..
-    "$own/bin/rattle-link" --target x86_64-unknown-linux-gnu --toolchain "$tools" -o "$room/$1" "${@:2}" >"$room/link" 2>&1 || { cat "$room/link" >&2; exit 1; }
+    "$kit/bin/rattle-link" --target x86_64-unknown-linux-gnu --toolchain "$tools" -o "$room/$1" "${@:2}" >"$room/link" 2>&1 || { cat "$room/link" >&2; exit 1; }
 }
 run() { # PROGRAM WORD..
-    if [ -x "$emulator" ]; then "$emulator" "${loader[@]}" "$room/$1" "${@:2}"; else "${loader[@]}" "$room/$1" "${@:2}"; fi <"$input"
+    "${loader[@]}" "$room/$1" "${@:2}" <"$input"
 }
 
 # from the places where instructions begin, and a trace of blocks with their bytes: how many instructions were run. No block begins one in a second page.
@@ -48,7 +47,7 @@ END {
     printf "%.0f\n", all
 }'
 counter=valgrind
-if [ -x "$emulator" ]; then
+if [ -n "$emulator" ]; then
     counter=emulator
 elif perf stat -x, -e instructions:u -o "$room/perf" true >/dev/null 2>&1 && grep -q '^[0-9]' "$room/perf"; then
     counter=perf
@@ -64,7 +63,7 @@ count() { # PROGRAM WORD..: the instructions of a run, whatever its exit status
         sed -n 's/,.*instructions.*//p' "$room/perf"
         ;;
     valgrind)
-        valgrind --tool=callgrind --callgrind-out-file="$room/calls" --log-file="$room/log" "${loader[@]}" "$room/$1" "${@:2}" >"$room/out" <"$input" || true
+        valgrind --tool=callgrind --callgrind-out-file="$room/callgrind" --log-file="$room/log" "${loader[@]}" "$room/$1" "${@:2}" >"$room/out" <"$input" || true
         sed -n 's/.*Collected : *//p' "$room/log"
         ;;
     esac

@@ -3,13 +3,14 @@
 #
 #   tools/measure.sh [MEMBERS..]      members of each set, 31 at most: 4 10 30 if none is named
 #
-# Where both run under the emulator, a time says something only as a ratio. A round's count is half the difference between runs of three rounds and of
-# one: what a program does before and after is not in it.
+# A round's count is half the difference between runs of three rounds and of one: what a program does before and after is not in it.
 set -euo pipefail
 cd "$(dirname "$0")/.."
 . tools/counting.sh
-rt check bench_strings | grep '^rt: bench_strings'
-cp target/bin/bench_strings "$room/ours"
+(cd crates/bench_strings && rt run <stdin >"$room/out" 2>"$room/say") || { cat "$room/say" >&2; exit 1; }
+cmp "$room/out" crates/bench_strings/stdout
+echo 'rt: bench_strings is proved, and prints its checksum'
+cp crates/bench_strings/out/bench_strings "$room/ours"
 compile tests/bench/strings.c reference.o
 link reference "$room/reference.o"
 

@@ -1,7 +1,7 @@
 #!/usr/bin/env python3
 """Reads off the compiled static library how much stack each exported call takes.
 
-    rt staticlib exports && tools/measure_stack.py target/staticlib/libexports.a
+    bindings/archive && tools/measure_stack.py target/staticlib/libexports.a
 
 For each function the disassembly tells its own frame (saved registers, locals, the return address of whoever calls it) and which functions it calls.
 A call's stack is then the largest sum along a chain of calls; a function with more than one way in is counted with the sum of their frames. A function
@@ -28,7 +28,7 @@ def disassembly(archive):
 def functions(lines):
     """Each function's frame in bytes, and the functions it calls."""
     frames, calls, name = {}, {}, None
-    for line in lines:
+    for before_last, above, line in zip(["", "", *lines], ["", *lines], lines):
         head = re.match(r"[0-9a-f]+ <(.+)>:$", line)
         if head:
             name = head[1]
@@ -38,13 +38,11 @@ def functions(lines):
             continue
         if re.search(r"\tpush ", line):
             frames[name] += 8
-        # a large frame is taken page by page, in a loop to an end that is told before it
-        pages = re.search(r"\tsub +\$0x([0-9a-f]+),%r11", line)
-        if pages:
-            frames[name] += int(pages[1], 16) - 4096
+        # a large frame is taken step by step, in a loop to an end that is told before it; the step stands right behind that end
+        end = re.search(r"\tmov +%rsp,%r11$", before_last) and re.search(r"\tsub +\$0x([0-9a-f]+),%r11$", above)
         local = re.search(r"\tsub +\$0x([0-9a-f]+),%rsp", line)
         if local:
-            frames[name] += int(local[1], 16)
+            frames[name] += int((end or local)[1], 16)
         # a call, or a jump to another function, by its relocation; a call of itself by its label
         to = re.search(r"R_X86_64_(?:PLT32|PC32|GOTPCREL\w*)\t(?:\.text\.)?([\w.$:]+?)(?:[-+]0x[0-9a-f]+)?$", line) or re.search(r"\tcall +[0-9a-f]+ <([\w.$:]+)>$", line)
         if to:
