@@ -1,6 +1,6 @@
 // Text for standard output, gathered in lent bytes and written when they are full. Each function takes the number of bytes that wait, and gives
 // back the number that wait then. After a write that failed none is taken to wait.
-ghost use Rattle.std.specs.Prelude.{IfOk, OnErr};
+ghost use Rattle.std.specs.Prelude.{◌≡◌, IfOk, OnErr, length};
 ghost use Rattle.lines.specs.Waits.{Waits};
 
 use io::{decimal, hex};
@@ -13,10 +13,12 @@ pub fn flush(rt: &impl Print, out: &[u8], at: usize) -> Result<()>
     rt.write_all(&out[0..at])
 }
 
+// Only a write can fail: where there is room nothing is written.
 pub fn put(rt: &impl Print, out: &mut [u8], at: usize, byte: u8) -> Result<usize>
     requires { Waits at out.old }
     ensures ok { IfOk result (λ next. Waits next out.new) }
     ensures err { OnErr result (Waits 0 out.new) }
+    ensures written { OnErr result (at ≡ length out.old) }
 {
     if at < out.len() {
         out[at] = byte;
