@@ -17,14 +17,10 @@ use Rattle.abnf_tables.specs.Tables.{Tables, among}
 use Rattle.abnf.specs.Numbering.{missing, number_of, symbol_of, right, alternatives, empty_of, production_of, productions_of, productions_from}
 use Rattle.abnf.specs.Writes.{FirstMissing, Puts, PutsAll, Pastes, WritesTable}
 use Rattle.abnf.specs.declared.grammar.Put.{Put}
-use Rattle.abnf.specs.declared.grammar.TableAnswer.TheVariants.{Written, Refused}
-use Rattle.abnf_tables.proofs.WordLaws.{past, drop_past}
-
-pub there : (l : List ℕ) (at p : ℕ) → p ≡ at → get_or l p 0 ≡ get_or l at 0
-there l at p e = rw e
-
-pub nothing-there : (l : List ℕ) (at p : ℕ) → p ≡ at → length l ≤ p → 0 ≡ get_or l at 0
-nothing-there l at p e h = past l at 0 (omega arith)
+use Rattle.refusals.specs.declared.Refusal.TheVariants.{LentTooFew}
+use Rattle.abnf_tables.specs.declared.refused.Refused.{Refused}
+use Rattle.std.specs.Prelude.{Some, None, Result, Ok, Err}
+use Rattle.abnf_tables.proofs.WordLaws.{drop_past}
 
 -- ---- the first name that is missing
 
@@ -37,9 +33,9 @@ module _ (xs : List ℕ) (n : ℕ) where
   misses-start = record { below = omega arith; says = λ names good h. refl }
 
   module _ (k : ℕ) (w : Misses xs n k) where
-    pub misses-end : n ≤ k → FirstMissing xs n k
+    pub misses-end : n ≤ k → FirstMissing xs n None
     unfolding missing
-    misses-end h = record { inside = w.below; says = λ names good e. rw (le-ltb k n h) (w.says names good e ∙ rw (drop_past names k (omega arith))) }
+    misses-end h = record { inside = tt; says = λ names good e. w.says names good e ∙ rw (drop_past names k (omega arith)) }
 
     module _ (h : k < n) (t : Bool) (e : t ≡ among k xs) where
       pub misses-next : t ≡ true → Misses xs n (k + 1)
@@ -51,9 +47,9 @@ module _ (xs : List ℕ) (n : ℕ) where
             w.says names good f ∙ rw (d, ← e, z);
       }
 
-      pub misses-here : t ≡ false → FirstMissing xs n k
+      pub misses-here : t ≡ false → FirstMissing xs n (Some k)
       unfolding missing
-      misses-here z = record { inside = w.below; says = λ names good f. rw (lt-ltb k n h) (w.says names good f ∙ rw (drop-cons names k 0 (omega arith), ← e, z)) }
+      misses-here z = record { inside = h; says = λ names good f. w.says names good f ∙ rw (drop-cons names k 0 (omega arith), ← e, z) }
 
 -- ---- numbers of symbols
 
@@ -315,26 +311,25 @@ module _ (text names items lefts ns₀ : List ℕ) where
   all l = productions_from text names items l (drop l lefts)
 
   pub record Lefts (ns : List ℕ) (at count l : ℕ) : Type 0 where
-    pub below : l ≤ length lefts
     pub fills : Filling ns at (all_numbers (all l)) (take 0 ns₀ ++ all_numbers (all 0)) (0 + length (all_numbers (all 0)))
     pub counts : count + length (all l) ≡ length (all 0)
     pub few : 0 + count ≤ at
 
   pub lefts-start : length (all_numbers (productions_from text names items 0 lefts)) ≤ length ns₀ → Lefts ns₀ 0 0 0
-  lefts-start h = record { below = omega arith; fills = filling-start ns₀ 0 _ (omega arith); counts = omega arith; few = omega arith }
+  lefts-start h = record { fills = filling-start ns₀ 0 _ (omega arith); counts = omega arith; few = omega arith }
 
   module _ (ns : List ℕ) (at count l : ℕ) (w : Lefts ns at count l) where
-    pub lefts-end : (i : ℕ) → i ≡ l → length lefts ≤ i → PutsAll (record { used = at; count = count }) 0 ns₀ ns (productions_from text names items 0 lefts)
+    pub lefts-end : length lefts ≤ l → PutsAll (record { used = at; count = count }) 0 ns₀ ns (productions_from text names items 0 lefts)
     unfolding productions_from
-    lefts-end i e h = record {
+    lefts-end h = record {
       few = w.few;
-      count = let z : count + 0 ≡ length (all 0) = rw (drop_past lefts l (omega arith)) at w.counts in omega arith;
-      puts = filling-puts ns₀ ns 0 at _ (rw (drop_past lefts l (omega arith)) at w.fills);
+      count = let z : count + 0 ≡ length (all 0) = rw (drop_past lefts l h) at w.counts in omega arith;
+      puts = filling-puts ns₀ ns 0 at _ (rw (drop_past lefts l h) at w.fills);
     }
 
-    module _ (i : ℕ) (e : i ≡ l) (h : i < length lefts) where
+    module _ (h : l < length lefts) where
       cut : drop l lefts ≡ get_or lefts l 0 ∷ drop (l + 1) lefts
-      cut = rw add-one (drop-cons lefts l 0 (omega arith))
+      cut = rw add-one (drop-cons lefts l 0 h)
 
       abbrev these : List Production
       these = productions_of text names items l (get_or lefts l 0)
@@ -347,34 +342,29 @@ module _ (text names items lefts ns₀ : List ℕ) where
       unfolding productions_from
       counts-left = rw (cut, count-append these (all (l + 1))) at w.counts
 
-      pub lefts-room : (p : ℕ) → p ≡ l → (k : ℕ) → k ≡ l → at + length (all_numbers (productions_of text names items k (get_or lefts p 0))) ≤ length ns
-      lefts-room p f k g = rw (f, g) (let s = fills-left in omega (arith, s.inside, s.room, length-append (all_numbers these) (all_numbers (all (l + 1)))))
+      pub lefts-room : at + length (all_numbers these) ≤ length ns
+      lefts-room = let s = fills-left in omega (arith, s.inside, s.room, length-append (all_numbers these) (all_numbers (all (l + 1))))
 
-      module _ (p : ℕ) (f : p ≡ l) (k : ℕ) (g : k ≡ l) (ms : List ℕ) (r : Put) (v : PutsAll r at ns ms (productions_of text names items k (get_or lefts p 0))) where
-        here-puts : PutsAll r at ns ms these
-        here-puts = rw (f, g) at v
-
-        pub lefts-more : length ms ≡ length ns → Lefts ms r.used (count + r.count) (l + 1)
-        lefts-more z = let x = here-puts in record {
-          below = omega arith;
-          fills = filling-more ns ms at r.used (all_numbers these) _ _ _ x.puts z fills-left;
-          counts = let y = counts-left in omega (arith, x.count);
-          few = omega (arith, x.few, w.few);
-        }
+      pub lefts-more : (ms : List ℕ) (r : Put) → PutsAll r at ns ms these → length ms ≡ length ns → Lefts ms r.used (count + r.count) (l + 1)
+      lefts-more ms r x z = record {
+        fills = filling-more ns ms at r.used (all_numbers these) _ _ _ x.puts z fills-left;
+        counts = let y = counts-left in omega (arith, x.count);
+        few = omega (arith, x.few, w.few);
+      }
 
 pub second-inside : (ns : List ℕ) (v a used : ℕ) → v ≡ used → used + 2 ≤ length ns → v + 1 < length (set ns v a)
 second-inside ns v a used e h = rw (length-set ns v a) (omega arith)
 
 -- ---- the bytes of numbers
 
+-- the numbers before i take n bytes
 pub record Sizes (numbers : List ℕ) (n i : ℕ) : Type 0 where
-  pub below : i ≤ length numbers
   pub few : n ≤ 2 * i
   pub rest : n + length (write_numbers (drop i numbers)) ≡ length (write_numbers numbers)
 
 module _ (numbers : List ℕ) where
   pub sizes-start : Sizes numbers 0 0
-  sizes-start = record { below = omega arith; few = omega arith; rest = omega arith }
+  sizes-start = record { few = omega arith; rest = omega arith }
 
   module _ (n i : ℕ) (w : Sizes numbers n i) where
     pub sizes-end : length numbers ≤ i → n ≡ length (write_numbers numbers)
@@ -389,11 +379,11 @@ module _ (numbers : List ℕ) where
 
       pub sizes-one : get_or numbers i 0 < 128 → Sizes numbers (n + 1) (i + 1)
       unfolding write_number
-      sizes-one z = record { below = omega arith; few = omega (arith, w.few); rest = let t = rw (lt-ltb (get_or numbers i 0) 128 z) at turn in omega arith }
+      sizes-one z = record { few = omega (arith, w.few); rest = let t = rw (lt-ltb (get_or numbers i 0) 128 z) at turn in omega arith }
 
       pub sizes-two : 128 ≤ get_or numbers i 0 → Sizes numbers (n + 2) (i + 1)
       unfolding write_number
-      sizes-two z = record { below = omega arith; few = omega (arith, w.few); rest = let t = rw (le-ltb (get_or numbers i 0) 128 z) at turn in omega arith }
+      sizes-two z = record { few = omega (arith, w.few); rest = let t = rw (le-ltb (get_or numbers i 0) 128 z) at turn in omega arith }
 
 -- `rest` is still to come behind the first `at` bytes, and all are `goal`
 pub record Pasting (out₀ out : List ℕ) (at : ℕ) (rest goal : List ℕ) : Type 0 where
@@ -416,12 +406,10 @@ pasting-push out₀ out at v rest goal w =
 
 module _ (numbers out₀ : List ℕ) (from : ℕ) where
   pub record Bytes (out : List ℕ) (at i : ℕ) : Type 0 where
-    pub below : i ≤ length numbers
     pub pastes : Pasting out₀ out at (write_numbers (drop i numbers)) (take from out₀ ++ write_numbers numbers)
 
   pub bytes-start : from + length (write_numbers numbers) ≤ length out₀ → Bytes out₀ from 0
   bytes-start h = record {
-    below = omega arith;
     pastes = record { front = take from out₀; is = sym (take-drop from out₀); size = length-take-le from out₀ (omega arith); room = h; same = refl };
   }
     where
@@ -453,7 +441,7 @@ module _ (numbers out₀ : List ℕ) (from : ℕ) where
         bytes-one-room n f g = let o = one in omega (arith, o.room)
 
         pub bytes_one : Bytes (set out at (get_or numbers i 0)) (at + 1) (i + 1)
-        bytes_one = record { below = omega arith; pastes = pasting-push out₀ out at _ _ _ one }
+        bytes_one = record { pastes = pasting-push out₀ out at _ _ _ one }
 
       module _ (z : 128 ≤ get_or numbers i 0) where
         two : Pasting out₀ out at ((get_or numbers i 0 % 128 + 128) ∷ (get_or numbers i 0 / 128) ∷ write_numbers (drop (i + 1) numbers)) (take from out₀ ++ write_numbers numbers)
@@ -469,7 +457,7 @@ module _ (numbers out₀ : List ℕ) (from : ℕ) where
         pub bytes-two : Bytes (set (set out at (get_or numbers i 0 % 128 + 128)) (at + 1) (get_or numbers i 0 / 128)) (at + 2) (i + 1)
         bytes-two =
             let t : at + 1 + 1 ≡ at + 2 = omega arith in
-            record { below = omega arith; pastes = rw t at (pasting-push out₀ _ (at + 1) _ _ _ (pasting-push out₀ out at _ _ _ two)) }
+            record { pastes = rw t at (pasting-push out₀ _ (at + 1) _ _ _ (pasting-push out₀ out at _ _ _ two)) }
 
 -- ---- the table
 
@@ -481,8 +469,8 @@ module _ (header numbers out : List ℕ) (first rest : ℕ) (e : first ≡ lengt
   all-size : length (write_numbers (header ++ numbers)) ≡ first + rest
   all-size = rw (write-append header numbers, length-append (write_numbers header) (write_numbers numbers), e, f)
 
-  pub table-full : length out < first + rest → WritesTable (Refused 10 0) out out (write_numbers (header ++ numbers))
-  table-full h = record { says = rw (all-size, lt-leb (first + rest) (length out) h); kept = refl }
+  pub table-full : length out < first + rest → (r : Result ℕ Refused) → r ≡ Err (record { refusal = LentTooFew; place = 0 }) → WritesTable r out out (write_numbers (header ++ numbers))
+  table-full h r x = rw x (record { says = rw (all-size, lt-leb (first + rest) (length out) h); kept = refl })
 
   pub table-first : first + rest ≤ length out → 0 + length (write_numbers header) ≤ length out
   table-first h = omega arith
@@ -491,7 +479,7 @@ module _ (header numbers out : List ℕ) (first rest : ℕ) (e : first ≡ lengt
     pub table-rest : (n : ℕ) → length out1 ≡ n → length out ≡ n → at + length (write_numbers numbers) ≤ length out1
     table-rest n g k = omega (arith, p.end)
 
-    pub table-written : (end : ℕ) (out2 : List ℕ) → Pastes end at out1 out2 (write_numbers numbers) → WritesTable (Written end) out out2 (write_numbers (header ++ numbers))
+    pub table-written : (end : ℕ) (out2 : List ℕ) → Pastes end at out1 out2 (write_numbers numbers) → WritesTable (Ok end) out out2 (write_numbers (header ++ numbers))
     table-written end out2 q =
         let a : length (write_numbers header) ≡ at = omega (arith, p.end) in
         let start : out1 ≡ write_numbers header ++ drop at out = p.says in

@@ -1,7 +1,7 @@
 -- What `read_abnf` promises, in words of the text: one answer, a written table is always readable, and exactly when 19 and 10 are given. Assumes nothing.
 use Prim.Native.Nat.{ℕ, zero, suc, ◌+◌, ◌≤◌, ◌<◌}
 use native.Mathlib.Omega.{arith}
-use mathlib.Core.Path.{◌≡◌, refl, sym, ◌∙◌}
+use mathlib.Core.Path.{◌≡◌, refl, sym, ap, ◌∙◌}
 use mathlib.Core.List.{List, [], ◌∷◌}
 use mathlib.Core.Bool.{Bool, true, false, ◌||◌}
 use lib.ListN.{length, get_or}
@@ -21,14 +21,28 @@ use Rattle.abnf_tables.specs.Run.{Run, on, refused, ◌then◌}
 use Rattle.abnf_tables.specs.Tables.{Tables, among}
 use Rattle.abnf_rules.specs.Machine.{scanned, start}
 use Rattle.abnf.specs.Numbering.{missing, grammar_of}
-use Rattle.abnf.specs.Abnf.{read_rules, table_of, ReadsAbnf}
-use Rattle.abnf.specs.declared.grammar.TableAnswer.{TableAnswer}
+use Rattle.abnf.specs.Abnf.{read_rules, table_of, answer_says, ReadsAbnf}
+use Rattle.refusals.specs.declared.Refusal.{Refusal as Cause}
+use Rattle.abnf_tables.specs.declared.refused.Refused.{Refused}
+use Rattle.std.specs.Prelude.{Result, Ok, Err}
+use Rattle.refusals.specs.Numbers.{number}
+use Rattle.refusals.proofs.Numbers.{number-injective}
 use Rattle.abnf_rules.proofs.Bounds.{text-kept}
 use Rattle.abnf.proofs.Limited.{rules-limits}
 
 -- two answers that keep the promise on one text and the same lent bytes are the same, and so are the bytes that they leave
-pub read_one : (text lent : List ℕ) (r s : TableAnswer) (a b : List ℕ) → ReadsAbnf text lent r a → ReadsAbnf text lent s b → (r ≡ s) × (a ≡ b)
-read_one text lent r s a b x y = (x.answer ∙ sym y.answer, x.bytes ∙ sym y.bytes)
+pub read_one : (text lent : List ℕ) (r s : Result ℕ Refused) (a b : List ℕ) → ReadsAbnf text lent r a → ReadsAbnf text lent s b → (r ≡ s) × (a ≡ b)
+read_one text lent r s a b x y = (same r s (x.answer ∙ sym y.answer), x.bytes ∙ sym y.bytes)
+  where
+    same : (r s : Result ℕ Refused) → answer_says r ≡ answer_says s → r ≡ s
+    same (Ok n) (Ok m) e = cc
+    same (Ok n) (Err f) e = cc
+    same (Err d) (Ok m) e = cc
+    same (Err d) (Err f) e =
+        let i : number d.refusal ≡ number f.refusal = cc in
+        let j : d.place ≡ f.place = cc in
+        let k : d.refusal ≡ f.refusal = number-injective d.refusal f.refusal i in
+        ap Err (ap (λ (x : Cause). record { refusal = x; place = d.place }) k ∙ ap (λ (x : ℕ). record { refusal = f.refusal; place = x }) j)
 
 -- ---- a written table is always readable
 

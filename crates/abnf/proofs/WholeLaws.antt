@@ -5,21 +5,21 @@ use mathlib.Core.Path.{◌≡◌, refl, sym, ap, ◌∙◌}
 use mathlib.Core.List.{List, [], ◌∷◌, ◌++◌}
 use lib.ListN.{length, get_or, take, drop, length-take, take-append-drop}
 use lib.Seq.{length-take-le, get_or-take}
-use lib.Dec.{ltb}
-use borrow.Author.Tests.{lt-ltb, le-ltb}
-use Rattle.cfg.specs.Reading.{pick}
 use Rattle.cfg.specs.Write.{write_numbers, write_table, all_numbers}
-use Rattle.abnf_tables.specs.Run.{Run, on, refused}
+use Rattle.abnf_tables.specs.Run.{Run, on}
 use Rattle.abnf_rules.specs.Machine.{scanned, start}
 use Rattle.abnf.specs.Numbering.{missing, number_of, productions_from, grammar_of}
 use Rattle.abnf.specs.Abnf.{read_rules, table_of, answer_of, bytes_after, ReadsAbnf}
 use Rattle.abnf_tables.specs.Says.{tables_of, tables_say, Sane, SaneBuilt}
-use Rattle.abnf.specs.Writes.{table_says, Kept, FirstMissing, PutsAll, AllBelow, WritesTable, Numbered, Scanned, table_bytes, refused_of}
+use Rattle.abnf.specs.Writes.{table_says, Kept, unless_missed, FirstMissing, PutsAll, AllBelow, WritesTable, Numbered, Scanned, table_bytes}
 use Rattle.abnf.specs.declared.grammar.Put.{Put}
-use Rattle.abnf.specs.declared.grammar.TableAnswer.{TableAnswer}
-use Rattle.abnf.specs.declared.grammar.TableAnswer.TheVariants.{Written, Refused}
+use Rattle.abnf_tables.specs.declared.refused.Refused.{Refused}
+use Rattle.refusals.specs.declared.Refusal.TheVariants.{Undefined}
+use Rattle.std.specs.Prelude.{Option, Some, None, Result, Ok, Err}
+use Rattle.std.specs.Result.{IsErrAnd}
+use Rattle.abnf_tables.proofs.TableLaws.{passed-on}
 use Rattle.abnf_tables.specs.declared.tables.Counts.{Counts}
-use Rattle.abnf_tables.specs.declared.tables.Built.{Built}
+use Rattle.abnf_tables.specs.declared.tables.Notes.{Notes}
 use Rattle.abnf_rules.proofs.Bounds.{Bounded, text-kept, kept-bounded}
 use Rattle.abnf.proofs.Counting.{numbers_fit, numbers-small}
 
@@ -50,7 +50,7 @@ module _ (text : List ℕ) (c : Counts) (names lefts items : List ℕ) (w : Numb
       header-small (suc (suc (suc zero))) = omega (arith, v.few, v.puts.end, w.numbers)
       header-small (suc (suc (suc (suc j)))) = omega arith
 
-      pub table-bytes : (r : TableAnswer) (out out' : List ℕ) → WritesTable r out out' (write_numbers (((c.names + c.groups) ∷ c.literals ∷ s ∷ p.count ∷ []) ++ take i ms)) → WritesTable r out out' (table_bytes text c names lefts items)
+      pub table-bytes : (r : Result ℕ Refused) (out out' : List ℕ) → WritesTable r out out' (write_numbers (((c.names + c.groups) ∷ c.literals ∷ s ∷ p.count ∷ []) ++ take i ms)) → WritesTable r out out' (table_bytes text c names lefts items)
       unfolding table_bytes write_table grammar_of
       table-bytes r out out' u =
           let h : s ≡ number_of text names (get_or lefts 0 0) = g.0 ∙ rw f in
@@ -58,86 +58,92 @@ module _ (text : List ℕ) (c : Counts) (names lefts items : List ℕ) (w : Numb
 
 -- ---- the table of a text
 
-module _ (text ns ls fs is : List ℕ) (b : Built) (says : tables_say b ns ls fs is ≡ scanned text 0 text start) where
-  pub whole-refused : (n p : ℕ) → b ≡ Built.Refused n p → (a : TableAnswer) → a ≡ refused_of b → (out : List ℕ) → table_says a out ≡ table_of text (length out)
-  unfolding table_of read_rules
-  whole-refused n p e a f out = rw (f, ← says, e)
+module _ (text : List ℕ) (n : Notes) (b : Result (Unit {0}) Refused) (says : tables_say b n ≡ scanned text 0 text start) where
+  module _ (e : Refused) (f : b ≡ Err e) (r : Result ℕ Refused) (h : IsErrAnd r (λ f. f ≡ e)) where
+    pub whole-refused : (out : List ℕ) → table_says r out ≡ table_of text (length out)
+    unfolding table_of read_rules
+    whole-refused out = rw (passed-on r e h, ← says, f)
 
-  pub refused-kept : (n p : ℕ) → b ≡ Built.Refused n p → (a : TableAnswer) → a ≡ refused_of b → (out : List ℕ) → Kept a out out
-  refused-kept n p e a f out = rw (f, e) refl
+    pub refused-kept : (out : List ℕ) → Kept r out out
+    refused-kept out = rw (passed-on r e h) refl
 
-  pub whole-scanned : (c : Counts) → b ≡ Built.Done c → SaneBuilt 0 b → 128 ≤ length ns → 4089 ≤ length ls → 128 ≤ length fs → 4608 ≤ length is → Scanned text c ns fs is
-  whole-scanned c e s ln ll lf li = record { ls = ls; says = sym says ∙ rw e; sane = rw e at s; names = ln; literals = ll; lefts = lf; items = li }
+  pub whole-scanned : b ≡ Ok tt → SaneBuilt 0 b n → Scanned text n
+  whole-scanned e s = record { says = sym says ∙ rw e; sane = rw e at s }
 
-module _ (text : List ℕ) (c : Counts) (ns fs is : List ℕ) (w : Scanned text c ns fs is) where
-  pub lefts-inside : c.lefts ≤ length fs
-  lefts-inside = let s = w.sane in omega (arith, s.lefts, w.lefts)
+module _ (text : List ℕ) (n : Notes) (w : Scanned text n) (room-names : length n.names ≡ 128) (room-literals : length n.literals ≡ 4089) (room-lefts : length n.lefts ≡ 128) (room-items : length n.items ≡ 4608) where
+  abbrev c : Counts
+  c = n.counts
 
-  pub names-part : (i : ℕ) → i ≡ c.names → i ≤ length ns
-  names-part i e = let s = w.sane in omega (arith, s.names, w.names)
+  pub lefts-inside : c.lefts ≤ length n.lefts
+  lefts-inside = let s = w.sane in omega (arith, s.lefts, room-lefts)
 
-  pub lefts-part : (i : ℕ) → i ≡ c.lefts → i ≤ length fs
-  lefts-part i e = let s = w.sane in omega (arith, s.lefts, w.lefts)
+  pub names-part : (i : ℕ) → i ≡ c.names → i ≤ length n.names
+  names-part i e = let s = w.sane in omega (arith, s.names, room-names)
 
-  pub items-part : (i : ℕ) → i ≡ c.items → i ≤ length is
-  items-part i e = let s = w.sane in omega (arith, s.items, s.productions, s.symbols, w.items)
+  pub lefts-part : (i : ℕ) → i ≡ c.lefts → i ≤ length n.lefts
+  lefts-part i e = let s = w.sane in omega (arith, s.lefts, room-lefts)
 
-  pub names-whole : (i : ℕ) → i ≡ c.names → i ≡ length (take i ns)
-  names-whole i e = sym (length-take-le i ns (names-part i e))
+  pub items-part : (i : ℕ) → i ≡ c.items → i ≤ length n.items
+  items-part i e = let s = w.sane in omega (arith, s.items, s.productions, s.symbols, room-items)
 
-  pub lefts-whole : (i : ℕ) → i ≡ c.lefts → i ≡ length (take i fs)
-  lefts-whole i e = sym (length-take-le i fs (lefts-part i e))
+  pub names-whole : (i : ℕ) → i ≡ c.names → i ≡ length (take i n.names)
+  names-whole i e = sym (length-take-le i n.names (names-part i e))
 
-  pub items-whole : (i : ℕ) → i ≡ c.items → i ≡ length (take i is)
-  items-whole i e = sym (length-take-le i is (items-part i e))
+  pub lefts-whole : (i : ℕ) → i ≡ c.lefts → i ≡ length (take i n.lefts)
+  lefts-whole i e = sym (length-take-le i n.lefts (lefts-part i e))
 
-  names-length : length (take c.names ns) ≡ c.names
-  names-length = length-take-le c.names ns (names-part c.names refl)
+  pub items-whole : (i : ℕ) → i ≡ c.items → i ≡ length (take i n.items)
+  items-whole i e = sym (length-take-le i n.items (items-part i e))
 
-  literals-length : length (take c.literals w.ls) ≡ c.literals
-  literals-length = let s = w.sane in length-take-le c.literals w.ls (omega (arith, s.literals, w.literals))
+  names-length : length (take c.names n.names) ≡ c.names
+  names-length = length-take-le c.names n.names (names-part c.names refl)
 
-  bounded : Bounded (tables_of c ns w.ls fs is)
-  bounded = kept-bounded (tables_of c ns w.ls fs is) (rw w.says at (text-kept text))
+  literals-length : length (take c.literals n.literals) ≡ c.literals
+  literals-length = let s = w.sane in length-take-le c.literals n.literals (omega (arith, s.literals, room-literals))
 
-  pub whole-numbered : (i j k : ℕ) → i ≡ c.names → j ≡ c.lefts → k ≡ c.items → Numbered text c (take i ns) (take j fs) (take k is)
+  bounded : Bounded (tables_of n)
+  bounded = kept-bounded (tables_of n) (rw w.says at (text-kept text))
+
+  pub whole-numbered : (i j k : ℕ) → i ≡ c.names → j ≡ c.lefts → k ≡ c.items → Numbered text c (take i n.names) (take j n.lefts) (take k n.items)
   whole-numbered i j k f g h =
-      let b : Bounded (tables_of c ns w.ls fs is) = bounded in
+      let b : Bounded (tables_of n) = bounded in
       let s : Sane 0 c = w.sane in
-      let size : length (take c.items is) ≤ 4608 = omega (arith, length-take c.items is, s.items, s.productions, s.symbols) in
-      let sides : length (take c.lefts fs) ≤ 128 = omega (arith, length-take c.lefts fs, s.lefts) in
-      let few : length (take c.names ns) ≤ 128 = omega (arith, length-take c.names ns, s.names) in
+      let size : length (take c.items n.items) ≤ 4608 = omega (arith, length-take c.items n.items, s.items, s.productions, s.symbols) in
+      let sides : length (take c.lefts n.lefts) ≤ 128 = omega (arith, length-take c.lefts n.lefts, s.lefts) in
+      let few : length (take c.names n.names) ≤ 128 = omega (arith, length-take c.names n.names, s.names) in
       rw (f, g, h) (record {
         few = few;
         sides = sides;
-        below = λ n. let z = b.lefts n in omega arith;
+        below = λ j. let z = b.lefts j in omega arith;
         limits = s.names;
         terminals = s.literals;
-        numbers = numbers_fit text (take c.names ns) (take c.items is) (take c.lefts fs) size sides;
-        small = numbers-small text (take c.names ns) few (take c.items is) size b.codes 0 (take c.lefts fs) b.lefts;
+        numbers = numbers_fit text (take c.names n.names) (take c.items n.items) (take c.lefts n.lefts) size sides;
+        small = numbers-small text (take c.names n.names) few (take c.items n.items) size b.codes 0 (take c.lefts n.lefts) b.lefts;
       })
 
-  module _ (k : ℕ) (m : FirstMissing (take c.lefts fs) c.names k) where
-    after : missing (take c.lefts fs) 0 (take c.names ns) (on (tables_of c ns w.ls fs is)) ≡ pick (ltb k c.names) (refused 19 (get_or (take c.names ns) k 0)) (on (tables_of c ns w.ls fs is))
-    after = m.says (take c.names ns) (on (tables_of c ns w.ls fs is)) names-length
+  module _ (k : Option ℕ) (m : FirstMissing (take c.lefts n.lefts) c.names k) where
+    after : missing (take c.lefts n.lefts) 0 (take c.names n.names) (on (tables_of n)) ≡ unless_missed k (take c.names n.names) (on (tables_of n))
+    after = m.says (take c.names n.names) (on (tables_of n)) names-length
 
-    pub whole-missing : k < c.names → (x : ℕ) → x ≡ get_or ns k 0 → (room : ℕ) → refused 19 x ≡ table_of text room
+    pub whole-missing : (i : ℕ) → k ≡ Some i → (x : ℕ) → x ≡ get_or n.names i 0 → (r : Result ℕ Refused) → r ≡ Err (record { refusal = Undefined; place = x }) → (out : List ℕ) → table_says r out ≡ table_of text (length out)
     unfolding table_of read_rules
-    whole-missing h x f room = rw (w.says, after, lt-ltb k c.names h, get_or-take c.names ns k 0 h, f)
+    whole-missing i e x f r g out =
+        let h : i < c.names = rw e at m.inside in
+        rw (g, w.says, after, e, get_or-take c.names n.names i 0 h, f)
 
-    pub whole-written : c.names ≤ k → (i j l : ℕ) → i ≡ c.names → j ≡ c.lefts → l ≡ c.items → (r : TableAnswer) (out out' : List ℕ) → WritesTable r out out' (table_bytes text c (take i ns) (take j fs) (take l is)) → table_says r out' ≡ table_of text (length out)
+    pub whole-written : k ≡ None → (i j l : ℕ) → i ≡ c.names → j ≡ c.lefts → l ≡ c.items → (r : Result ℕ Refused) (out out' : List ℕ) → WritesTable r out out' (table_bytes text c (take i n.names) (take j n.lefts) (take l n.items)) → table_says r out' ≡ table_of text (length out)
     unfolding table_of read_rules table_bytes grammar_of
-    whole-written h i j l f g q r out out' u =
-        let v : WritesTable r out out' (table_bytes text c (take c.names ns) (take c.lefts fs) (take c.items is)) = rw (f, g, q) at u in
-        rw (w.says, after, le-ltb k c.names h, names-length, literals-length) v.says
+    whole-written e i j l f g q r out out' u =
+        let v : WritesTable r out out' (table_bytes text c (take c.names n.names) (take c.lefts n.lefts) (take c.items n.items)) = rw (f, g, q) at u in
+        rw (w.says, after, e, names-length, literals-length) v.says
 
 -- ---- what is said of the bytes in front, and of those behind them, said of all
 
-pub reads-abnf : (text lent : List ℕ) (r : TableAnswer) (after : List ℕ) → table_says r after ≡ table_of text (length lent) → Kept r lent after
+pub reads-abnf : (text lent : List ℕ) (r : Result ℕ Refused) (after : List ℕ) → table_says r after ≡ table_of text (length lent) → Kept r lent after
     → length after ≡ length lent → ReadsAbnf text lent r after
-reads-abnf text lent (Written n) after e k l =
+reads-abnf text lent (Ok n) after e k l =
     let i : length (take n after) ≡ n = length-take-le n after (let q = k.0 in omega arith) in
     let a : after ≡ take n after ++ drop n lent = sym (take-append-drop n after) ∙ ap (λ (d : List ℕ). take n after ++ d) k.1 in
     let b : take n after ++ drop n lent ≡ take n after ++ drop (length (take n after)) lent = ap (λ (x : ℕ). take n after ++ drop x lent) (sym i) in
-    record { answer = ap Written (sym i) ∙ ap answer_of e; bytes = a ∙ b ∙ ap (λ (x : Run (List ℕ)). bytes_after x lent) e }
-reads-abnf text lent (Refused n p) after e k l = record { answer = ap answer_of e; bytes = k ∙ ap (λ (x : Run (List ℕ)). bytes_after x lent) e }
+    record { answer = ap on (sym i) ∙ ap answer_of e; bytes = a ∙ b ∙ ap (λ (x : Run (List ℕ)). bytes_after x lent) e }
+reads-abnf text lent (Err x) after e k l = record { answer = ap answer_of e; bytes = k ∙ ap (λ (x : Run (List ℕ)). bytes_after x lent) e }

@@ -1,5 +1,6 @@
 -- What the program's numbers and bytes say. It only connects the program; nobody needs to believe it. Assumes nothing.
-use Rattle.std.specs.Prelude.{ℕ, ◌+◌, ◌≤◌, ◌<◌, List, [], ◌++◌, ◌≡◌, length, take, drop, get_or, ltb, leb}
+use Rattle.std.specs.Prelude.{ℕ, ◌+◌, ◌≤◌, ◌<◌, List, [], ◌++◌, ◌≡◌, length, take, drop, get_or, leb, Option, Some, None, IfSome, Result, Ok, Err}
+use Rattle.refusals.specs.Numbers.{number}
 use Rattle.cfg.specs.Reading.{pick}
 use Rattle.cfg.specs.Write.{all_numbers, write_table}
 use Rattle.cfg.specs.Grammar.{Production}
@@ -8,30 +9,30 @@ use Rattle.abnf_tables.specs.Tables.{Tables, tables}
 use Rattle.abnf.specs.Numbering.{missing, productions_from, grammar_of}
 use Rattle.abnf_rules.specs.Machine.{scanned, start}
 use Rattle.abnf_tables.specs.Says.{tables_of, Sane}
-use Rattle.abnf.specs.declared.grammar.TableAnswer.{TableAnswer}
-use Rattle.abnf.specs.declared.grammar.TableAnswer.TheVariants.{Written, Refused}
+use Rattle.abnf_tables.specs.declared.refused.Refused.{Refused}
 use Rattle.abnf.specs.declared.grammar.Put.{Put}
 use Rattle.abnf_tables.specs.declared.tables.Counts.{Counts}
-use Rattle.abnf_tables.specs.declared.tables.Built.{Built}
+use Rattle.abnf_tables.specs.declared.tables.Notes.{Notes}
 
 -- the table that stands in the first bytes of the lent ones
-abbrev pub table_says : TableAnswer → List ℕ → Run (List ℕ)
-table_says (Written n) out = on (take n out)
-table_says (Refused number place) out = refused number place
+abbrev pub table_says : Result ℕ Refused → List ℕ → Run (List ℕ)
+table_says (Ok n) out = on (take n out)
+table_says (Err e) out = refused (number e.refusal) e.place
 
 -- the bytes behind the table, and on a refusal all, are as they came
-abbrev pub Kept : TableAnswer → List ℕ → List ℕ → Type 0
-Kept (Written n) before after = (n ≤ length before) × (drop n after ≡ drop n before)
-Kept (Refused number place) before after = after ≡ before
+abbrev pub Kept : Result ℕ Refused → List ℕ → List ℕ → Type 0
+Kept (Ok n) before after = (n ≤ length before) × (drop n after ≡ drop n before)
+Kept (Err e) before after = after ≡ before
 
-abbrev pub refused_of : Built → TableAnswer
-refused_of (Built.Done c) = Refused 0 0
-refused_of (Built.Refused number place) = Refused number place
+-- a name is refused by 19 at its place, where there is one
+abbrev pub unless_missed : Option ℕ → List ℕ → Run Tables → Run Tables
+unless_missed (Some k) names good = refused 19 (get_or names k 0)
+unless_missed None names good = good
 
--- r is the first number below n that is not among some, or n
-pub record FirstMissing (lefts : List ℕ) (n r : ℕ) : Type 0 where
-  pub inside : r ≤ n
-  pub says : (names : List ℕ) (good : Run Tables) → length names ≡ n → missing lefts 0 names good ≡ pick (ltb r n) (refused 19 (get_or names r 0)) good
+-- r is the first number below n that is not among some, if there is one
+pub record FirstMissing (lefts : List ℕ) (n : ℕ) (r : Option ℕ) : Type 0 where
+  pub inside : IfSome r (λ k. k < n)
+  pub says : (names : List ℕ) (good : Run Tables) → length names ≡ n → missing lefts 0 names good ≡ unless_missed r names good
 
 abbrev pub AllBelow : ℕ → List ℕ → Type 0
 AllBelow m xs = (i : ℕ) → get_or xs i 0 < m
@@ -52,7 +53,7 @@ pub record Pastes (r from : ℕ) (before after more : List ℕ) : Type 0 where
   pub says : after ≡ take from before ++ (more ++ drop r before)
 
 -- a table is written where it fits
-pub record WritesTable (r : TableAnswer) (before after : List ℕ) (bytes : List ℕ) : Type 0 where
+pub record WritesTable (r : Result ℕ Refused) (before after : List ℕ) (bytes : List ℕ) : Type 0 where
   pub says : table_says r after ≡ pick (leb (length bytes) (length before)) (on bytes) (refused 10 0)
   pub kept : Kept r before after
 
@@ -77,12 +78,7 @@ pub record Numbered (text : List ℕ) (c : Counts) (names lefts items : List ℕ
   pub numbers : length (all_numbers (productions_from text names items 0 lefts)) ≤ 9600
   pub small : AllBelow 32768 (all_numbers (productions_from text names items 0 lefts))
 
--- a text is read, and what was noted stands in three lists, the literals in a fourth
-pub record Scanned (text : List ℕ) (c : Counts) (ns fs is : List ℕ) : Type 0 where
-  pub ls : List ℕ
-  pub says : scanned text 0 text start ≡ on (tables_of c ns ls fs is)
-  pub sane : Sane 0 c
-  pub names : 128 ≤ length ns
-  pub literals : 4089 ≤ length ls
-  pub lefts : 128 ≤ length fs
-  pub items : 4608 ≤ length is
+-- a text is read, and what was noted
+pub record Scanned (text : List ℕ) (n : Notes) : Type 0 where
+  pub says : scanned text 0 text start ≡ on (tables_of n)
+  pub sane : Sane 0 n.counts

@@ -1,5 +1,5 @@
 -- One turn of each loop that looks for a part, and where parts stand. Assumes nothing.
-use Prim.Native.Nat.{ℕ, suc, ◌+◌, ◌-◌, ◌≤◌, ◌<◌}
+use Prim.Native.Nat.{ℕ, suc, max, ◌+◌, ◌-◌, ◌≤◌, ◌<◌}
 use native.Mathlib.Numerals.{add-one}
 use native.Mathlib.Omega.{arith}
 use mathlib.Core.Path.{◌≡◌, refl, sym, ◌∙◌}
@@ -13,36 +13,44 @@ use Rattle.cfg.specs.Reading.{pick}
 use Rattle.abnf_tables.specs.Run.{Run, on, refused}
 use Rattle.abnf_tables.specs.Words.{word, word_at, rank}
 use Rattle.abnf_tables.specs.Tables.{Tables}
-use Rattle.abnf_tables.specs.Says.{tables_say, Sane, SaneBuilt, HeadIs, no_byte, a_byte}
-use Rattle.abnf_tables.specs.declared.tables.Counts.{Counts}
-use Rattle.abnf_tables.specs.declared.tables.Built.{Built}
+use Rattle.abnf_tables.specs.Says.{tables_of, tables_say, Sane, SaneBuilt, HeadIs, no_byte, a_byte}
+use Rattle.abnf_tables.specs.declared.tables.Notes.{Notes}
+use Rattle.std.specs.Result.{is_err}
+use Rattle.abnf_tables.specs.declared.refused.Refused.{Refused}
+use Rattle.std.specs.Prelude.{Result, Ok, Err}
+use Rattle.abnf_names.specs.declared.Within.{Within}
+use Rattle.abnf_names.specs.declared.Within.TheVariants.{Rule}
 use Rattle.abnf_tables.proofs.WordLaws.{drop_past}
 use Rattle.abnf_rules.specs.Machine.{scanned, start}
 use Rattle.abnf_names.specs.declared.TextPart.{TextPart}
 use Rattle.abnf_names.specs.Parts.{part, no_part, word_part, name_numbered, state_after, opens, group_part, nonterminal_in, terminal_in, part_of, nonterminal_part, terminal_part, Inside}
-use Rattle.abnf_names.specs.Noted.{NonterminalIn, TerminalIn}
+use Rattle.abnf_names.specs.Noted.{state_number}
 
 -- ---- the end of a word
 
-pub record Ends (text : List ℕ) (q : Bool) (goal at : ℕ) : Type 0 where
-  pub rest : at + length (word_at q text at) ≡ goal
+-- the bytes from `from` up to `at` belong to the word
+pub record Ends (text : List ℕ) (q : Bool) (from at : ℕ) : Type 0 where
+  pub most : at ≤ max (length text) from
+  pub rest : at + length (word_at q text at) ≡ from + length (word_at q text from)
 
-module _ (text : List ℕ) (q : Bool) where
-  pub ends-start : (from : ℕ) → Ends text q (from + length (word_at q text from)) from
-  ends-start from = record { rest = refl }
+module _ (text : List ℕ) (q : Bool) (from : ℕ) where
+  pub ends-start : Ends text q from from
+  ends-start = record { most = omega arith; rest = refl }
 
-  module _ (goal at : ℕ) (w : Ends text q goal at) where
-    pub ends-past : length text ≤ at → at ≡ goal
+  module _ (at : ℕ) (w : Ends text q from at) where
+    pub ends-past : length text ≤ at → from ≤ at → max (length text) from ≡ from + length (word_at q text from)
     unfolding word
-    ends-past h = let e : at + 0 ≡ goal = rw (drop_past text at h) at w.rest in omega arith
+    ends-past h k = let e : at + 0 ≡ from + length (word_at q text from) = rw (drop_past text at h) at w.rest in omega (arith, w.most)
 
-    pub ends-here : (h : ℕ) → HeadIs text q at h → h ≡ 0 → at ≡ goal
-    ends-here h (no_byte e v) z = let f : at + 0 ≡ goal = rw v at w.rest in omega arith
+    pub ends-here : (h : ℕ) → HeadIs text q at h → h ≡ 0 → at ≡ from + length (word_at q text from)
+    ends-here h (no_byte e v) z = let f : at + 0 ≡ from + length (word_at q text from) = rw v at w.rest in omega arith
     ends-here h (a_byte e k v) z = absurd (omega arith)
 
-    pub ends_next : (h : ℕ) → HeadIs text q at h → (h ≡ 0 → ⊥) → Ends text q goal (at + 1)
-    ends_next h (no_byte e v) z = absurd (z e)
-    ends_next h (a_byte e k v) z = let f : at + suc (length (word_at q text (at + 1))) ≡ goal = rw v at w.rest in record { rest = omega arith }
+    pub ends_next : at < length text → (h : ℕ) → HeadIs text q at h → (h ≡ 0 → ⊥) → Ends text q from (at + 1)
+    ends_next l h (no_byte e v) z = absurd (z e)
+    ends_next l h (a_byte e k v) z =
+        let f : at + suc (length (word_at q text (at + 1))) ≡ from + length (word_at q text from) = rw v at w.rest in
+        record { most = omega arith; rest = omega arith }
 
 module _ (text : List ℕ) (q : Bool) (from end : ℕ) (e : end ≡ from + length (word_at q text from)) where
   pub word-inside : end ≤ length text → part from end ≡ word_part q text from
@@ -55,18 +63,18 @@ module _ (text : List ℕ) (q : Bool) (from end : ℕ) (e : end ≡ from + lengt
 
 -- ---- a name by its number
 
+-- the names before k have other numbers
 pub record Seeks (text names : List ℕ) (number k : ℕ) : Type 0 where
-  pub below : k ≤ length names
   pub rest : name_numbered text names number (drop k names) ≡ name_numbered text names number names
 
 module _ (text names : List ℕ) (number : ℕ) where
   pub seeks-start : Seeks text names number 0
-  seeks-start = record { below = omega arith; rest = refl }
+  seeks-start = record { rest = refl }
 
   module _ (k : ℕ) (w : Seeks text names number k) where
-    pub seeks-end : length names ≤ k → (r : TextPart) → r ≡ no_part → r ≡ name_numbered text names number names
+    pub seeks-end : length names ≤ k → no_part ≡ name_numbered text names number names
     unfolding name_numbered
-    seeks-end h r f = f ∙ (rw (drop_past names k h) at w.rest)
+    seeks-end h = rw (drop_past names k h) at w.rest
 
     module _ (from before i : ℕ) (h : k < length names) (e : from ≡ get_or names k 0) (b : before ≡ rank text from names) (j : i ≡ number) where
       opened : pick (eqb before i) (word_part false text from) (name_numbered text names number (drop (k + 1) names)) ≡ name_numbered text names number names
@@ -77,82 +85,45 @@ module _ (text names : List ℕ) (number : ℕ) where
       seeks-here z r f = f ∙ (rw (eq-eqb before i z) at opened)
 
       pub seeks-next : (before ≡ i → ⊥) → Seeks text names number (k + 1)
-      seeks-next z = record { below = omega arith; rest = rw (ne_eqb before i z) at opened }
-
--- ---- where a byte stands
-
-module _ (state b : ℕ) where
-  module _ (s : state ≡ 0) where
-    pub plain-quote : b ≡ 34 → 1 ≡ state_after state b
-    unfolding state_after
-    plain-quote e = rw (s, eq-eqb b 34 e)
-
-    pub plain-comment : (b ≡ 34 → ⊥) → b ≡ 59 → 2 ≡ state_after state b
-    unfolding state_after
-    plain-comment n e = rw (s, ne_eqb b 34 n, eq-eqb b 59 e)
-
-    pub plain_other : (b ≡ 34 → ⊥) → (b ≡ 59 → ⊥) → 0 ≡ state_after state b
-    unfolding state_after
-    plain_other n m = rw (s, ne_eqb b 34 n, ne_eqb b 59 m)
-
-  module _ (s : state ≡ 1) where
-    pub literal-quote : b ≡ 34 → 0 ≡ state_after state b
-    unfolding state_after
-    literal-quote e = rw (s, eq-eqb b 34 e)
-
-    pub literal-other : (b ≡ 34 → ⊥) → 1 ≡ state_after state b
-    unfolding state_after
-    literal-other n = rw (s, ne_eqb b 34 n)
-
-  module _ (z : state ≡ 0 → ⊥) (o : state ≡ 1 → ⊥) where
-    pub comment-end : b ≡ 13 → 0 ≡ state_after state b
-    unfolding state_after
-    comment-end e = rw (ne_eqb state 0 z, ne_eqb state 1 o, eq-eqb b 13 e)
-
-    pub comment-other : (b ≡ 13 → ⊥) → 2 ≡ state_after state b
-    unfolding state_after
-    comment-other n = rw (ne_eqb state 0 z, ne_eqb state 1 o, ne_eqb b 13 n)
+      seeks-next z = record { rest = rw (ne_eqb before i z) at opened }
 
 -- ---- "[" of a group
 
-pub record Counts-down (text : List ℕ) (goal : TextPart) (state g at : ℕ) : Type 0 where
-  pub below : at ≤ length text
-  pub rest : group_part state g at (drop at text) ≡ goal
+-- what is left of the text, from a place on, has the group
+pub record Counts-down (text : List ℕ) (goal : TextPart) (state : Within) (g at : ℕ) : Type 0 where
+  pub rest : group_part (state_number state) g at (drop at text) ≡ goal
 
 module _ (text : List ℕ) where
-  pub down-start : (g : ℕ) → Counts-down text (group_part 0 g 0 text) 0 g 0
-  down-start g = record { below = omega arith; rest = refl }
+  pub down-start : (g : ℕ) → Counts-down text (group_part 0 g 0 text) Rule g 0
+  down-start g = record { rest = refl }
 
-  module _ (goal : TextPart) (state g at : ℕ) (w : Counts-down text goal state g at) where
-    pub down-end : length text ≤ at → (r : TextPart) → r ≡ no_part → r ≡ goal
+  module _ (goal : TextPart) (state : Within) (g at : ℕ) (w : Counts-down text goal state g at) where
+    pub down-end : length text ≤ at → no_part ≡ goal
     unfolding group_part
-    down-end h r f = f ∙ (rw (drop_past text at h) at w.rest)
+    down-end h = rw (drop_past text at h) at w.rest
 
-    module _ (b next : ℕ) (h : at < length text) (e : b ≡ get_or text at 0) (n : next ≡ at + 1) where
-      turned : pick (opens state b && eqb g 0) (part at next) (group_part (state_after state b) (pick (opens state b) (g - 1) g) next (drop next text)) ≡ goal
+    module _ (h : at < length text) where
+      abbrev b : ℕ
+      b = get_or text at 0
+
+      abbrev n : ℕ
+      n = state_number state
+
+      turned : pick (opens n b && eqb g 0) (part at (at + 1)) (group_part (state_after n b) (pick (opens n b) (g - 1) g) (at + 1) (drop (at + 1) text)) ≡ goal
       unfolding group_part
       turned =
-          let d : drop at text ≡ b ∷ drop (at + 1) text = rw (e, add-one) (drop-cons text at 0 h) in
-          rw n (rw d at w.rest)
+          let d : drop at text ≡ b ∷ drop (at + 1) text = rw add-one (drop-cons text at 0 h) in
+          rw d at w.rest
 
-      module _ (s : state ≡ 0) (o : b ≡ 91) where
-        pub down-here : g ≡ 0 → part at next ≡ goal
-        down-here z = rw (eq-eqb state 0 s, eq-eqb b 91 o, eq-eqb g 0 z) at turned
+      module _ (t : Bool) (e : t ≡ opens n b) where
+        pub down-here : t ≡ true → g ≡ 0 → part at (at + 1) ≡ goal
+        down-here o z = rw (← e, o, eq-eqb g 0 z) at turned
 
-        stays : state ≡ state_after state b
-        unfolding state_after
-        stays = rw (s, o)
+        pub down-group : t ≡ true → (g ≡ 0 → ⊥) → (x : Within) → state_number x ≡ state_after n b → Counts-down text goal x (g - 1) (at + 1)
+        down-group o z x f = record { rest = rw f (rw (← e, o, ne_eqb g 0 z) at turned) }
 
-        pub down-group : (g ≡ 0 → ⊥) → Counts-down text goal state (g - 1) next
-        down-group z =
-            let t : group_part (state_after state b) (g - 1) next (drop next text) ≡ goal = rw (eq-eqb state 0 s, eq-eqb b 91 o, ne_eqb g 0 z) at turned in
-            record { below = omega arith; rest = rw (← stays) at t }
-
-      pub down-next : (x : ℕ) → x ≡ state_after state b → (state ≡ 0 → ⊥) → Counts-down text goal x g next
-      down-next x f z = record { below = omega arith; rest = rw f (rw (ne_eqb state 0 z) at turned) }
-
-      pub down-other : (x : ℕ) → x ≡ state_after state b → state ≡ 0 → (b ≡ 91 → ⊥) → Counts-down text goal x g next
-      down-other x f s z = record { below = omega arith; rest = rw f (rw (eq-eqb state 0 s, ne_eqb b 91 z) at turned) }
+        pub down-other : t ≡ false → (x : Within) → state_number x ≡ state_after n b → Counts-down text goal x g (at + 1)
+        down-other o x f = record { rest = rw f (rw (← e, o) at turned) }
 
 -- ---- parts stand in their text
 
@@ -160,7 +131,7 @@ inside-if : (text : List ℕ) (b : Bool) (x y : TextPart) → (b ≡ true → In
 inside-if text true x y f h = f refl
 inside-if text false x y f h = h
 
-none_inside : (text : List ℕ) → Inside text no_part
+pub none_inside : (text : List ℕ) → Inside text no_part
 none_inside text = record { order = omega arith; inside = omega arith }
 
 word_in : (q : Bool) (text : List ℕ) (from : ℕ) → Inside text (word_part q text from)
@@ -198,83 +169,95 @@ terminal-inside text x = by (scanned text 0 text start)
     by (on t) = inside-if text (leb 5 x && ltb (x - 5) (length t.literals)) _ _ (λ e. word_in true text (get_or t.literals (x - 5) 0)) (none_inside text)
     by (refused n p) = none_inside text
 
--- ---- what stands in the program's lists
+-- ---- what is noted
 
-module _ (text : List ℕ) (c : Counts) (i : ℕ) (ns : List ℕ) (few : c.names ≤ length ns) where
-  names-length : length (take c.names ns) ≡ c.names
-  names-length = length-take-le c.names ns few
+module _ (text : List ℕ) (n : Notes) (i : ℕ) (few : n.counts.names + n.counts.groups ≤ 128) (room : length n.names ≡ 128) where
+  names-length : length (take n.counts.names n.names) ≡ n.counts.names
+  names-length = length-take-le n.counts.names n.names (omega arith)
 
-  pub by_name : i < c.names → (k : ℕ) → k ≡ c.names → (r : TextPart) → r ≡ name_numbered text (take k ns) i (take k ns) → NonterminalIn text c i r ns
+  pub by_name : i < n.counts.names → (k : ℕ) → k ≡ n.counts.names → (r : TextPart) → r ≡ name_numbered text (take k n.names) i (take k n.names) → r ≡ nonterminal_in text i (tables_of n)
   unfolding nonterminal_in
-  by_name h k e r f = record { says = λ ls fs is. rw (names-length, lt-ltb i c.names h, ← e) f }
+  by_name h k e r f = rw (names-length, lt-ltb i n.counts.names h, ← e) f
 
-  module _ (h : c.names ≤ i) where
-    pub by-group : i < c.names + c.groups → (r : TextPart) → r ≡ group_part 0 (i - c.names) 0 text → NonterminalIn text c i r ns
+  module _ (h : n.counts.names ≤ i) where
+    pub by-group : i < n.counts.names + n.counts.groups → (r : TextPart) → r ≡ group_part 0 (i - n.counts.names) 0 text → r ≡ nonterminal_in text i (tables_of n)
     unfolding nonterminal_in
-    by-group k r f = record { says = λ ls fs is. rw (names-length, le-ltb i c.names h, lt-ltb i (c.names + c.groups) k) f }
+    by-group k r f = rw (names-length, le-ltb i n.counts.names h, lt-ltb i (n.counts.names + n.counts.groups) k) f
 
-    pub by-none : c.names + c.groups ≤ i → (r : TextPart) → r ≡ no_part → NonterminalIn text c i r ns
+    pub by-none : n.counts.names + n.counts.groups ≤ i → no_part ≡ nonterminal_in text i (tables_of n)
     unfolding nonterminal_in
-    by-none k r f = record { says = λ ls fs is. rw (names-length, le-ltb i c.names h, le-ltb i (c.names + c.groups) k) f }
+    by-none k = rw (names-length, le-ltb i n.counts.names h, le-ltb i (n.counts.names + n.counts.groups) k)
 
-module _ (text : List ℕ) (c : Counts) (x : ℕ) (ls : List ℕ) where
-  pub low-number : x < 5 → (r : TextPart) → r ≡ no_part → TerminalIn text c x r ls
+module _ (text : List ℕ) (n : Notes) (x : ℕ) where
+  pub low-number : x < 5 → no_part ≡ terminal_in text x (tables_of n)
   unfolding terminal_in
-  low-number h r f = record { says = λ ns fs is. rw (lt-leb 5 x h) f }
+  low-number h = rw (lt-leb 5 x h)
 
-  module _ (few : c.literals ≤ length ls) (h : 5 ≤ x) (y : ℕ) (e : y ≡ x - 5) where
-    literals-length : length (take c.literals ls) ≡ c.literals
-    literals-length = length-take-le c.literals ls few
+  module _ (few : n.counts.literals ≤ 4089) (room : length n.literals ≡ 4089) (h : 5 ≤ x) where
+    literals-length : length (take n.counts.literals n.literals) ≡ n.counts.literals
+    literals-length = length-take-le n.counts.literals n.literals (omega arith)
 
-    pub by-literal : y < c.literals → (k from : ℕ) → k ≡ y → from ≡ get_or ls k 0 → (r : TextPart) → r ≡ word_part true text from → TerminalIn text c x r ls
+    pub by-literal : x - 5 < n.counts.literals → (k from : ℕ) → k ≡ x - 5 → from ≡ get_or n.literals k 0 → (r : TextPart) → r ≡ word_part true text from → r ≡ terminal_in text x (tables_of n)
     unfolding terminal_in
     by-literal l k from f g r u =
-        let s : get_or (take c.literals ls) (x - 5) 0 ≡ from = rw (← e) (get_or-take c.literals ls y 0 l ∙ rw (← f) (sym g)) in
-        record { says = λ ns fs is. rw (le-leb 5 x h, literals-length, s, ← e, lt-ltb y c.literals l) u }
+        let s : get_or (take n.counts.literals n.literals) (x - 5) 0 ≡ from = get_or-take n.counts.literals n.literals (x - 5) 0 l ∙ rw (← f) (sym g) in
+        rw (le-leb 5 x h, literals-length, s, lt-ltb (x - 5) n.counts.literals l) u
 
-    pub high-number : c.literals ≤ y → (r : TextPart) → r ≡ no_part → TerminalIn text c x r ls
+    pub high-number : n.counts.literals ≤ x - 5 → no_part ≡ terminal_in text x (tables_of n)
     unfolding terminal_in
-    high-number l r f = record { says = λ ns fs is. rw (le-leb 5 x h, literals-length, ← e, le-ltb y c.literals l) f }
+    high-number l = rw (le-leb 5 x h, literals-length, le-ltb (x - 5) n.counts.literals l)
 
 -- ---- the whole text
 
-module _ (text ns ls fs is : List ℕ) (b : Built) (says : tables_say b ns ls fs is ≡ scanned text 0 text start) (i : ℕ) (r : TextPart) where
-  module _ (n p : ℕ) (e : b ≡ Built.Refused n p) (f : r ≡ no_part) where
-    pub refused-nonterminal : r ≡ nonterminal_part text i
+module _ (text : List ℕ) (n : Notes) (b : Result (Unit {0}) Refused) (says : tables_say b n ≡ scanned text 0 text start) (i : ℕ) (t : Bool) (d : t ≡ is_err b) where
+  pub refused-nonterminal : t ≡ true → no_part ≡ nonterminal_part text i
+  unfolding nonterminal_part
+  refused-nonterminal e = by b says (sym d ∙ e)
+    where
+      by : (b : Result (Unit {0}) Refused) → tables_say b n ≡ scanned text 0 text start → is_err b ≡ true → no_part ≡ part_of (scanned text 0 text start) (nonterminal_in text i)
+      by (Ok u) s z = cc
+      by (Err x) s z = rw (← s)
+
+  pub refused-terminal : t ≡ true → no_part ≡ terminal_part text i
+  unfolding terminal_part
+  refused-terminal e = by b says (sym d ∙ e)
+    where
+      by : (b : Result (Unit {0}) Refused) → tables_say b n ≡ scanned text 0 text start → is_err b ≡ true → no_part ≡ part_of (scanned text 0 text start) (terminal_in text i)
+      by (Ok u) s z = cc
+      by (Err x) s z = rw (← s)
+
+  module _ (e : t ≡ false) where
+    done : tables_say b n ≡ on (tables_of n)
+    done = by b (sym d ∙ e)
+      where
+        by : (b : Result (Unit {0}) Refused) → is_err b ≡ false → tables_say b n ≡ on (tables_of n)
+        by (Ok u) z = refl
+        by (Err x) z = cc
+
+    pub whole-nonterminal : (r : TextPart) → r ≡ nonterminal_in text i (tables_of n) → r ≡ nonterminal_part text i
     unfolding nonterminal_part
-    refused-nonterminal = rw (← says, e) f
+    whole-nonterminal r w = rw (← says, done) w
 
-    pub refused-terminal : r ≡ terminal_part text i
+    pub whole-terminal : (r : TextPart) → r ≡ terminal_in text i (tables_of n) → r ≡ terminal_part text i
     unfolding terminal_part
-    refused-terminal = rw (← says, e) f
+    whole-terminal r w = rw (← says, done) w
 
-    pub refused-inside : Inside text r
-    refused-inside = rw f (none_inside text)
+    pub nonterminal-in-text : (r : TextPart) → r ≡ nonterminal_in text i (tables_of n) → Inside text r
+    nonterminal-in-text r w = rw (whole-nonterminal r w) (nonterminal-inside text i)
 
-  module _ (c : Counts) (e : b ≡ Built.Done c) where
-    pub whole-nonterminal : NonterminalIn text c i r ns → r ≡ nonterminal_part text i
-    unfolding nonterminal_part
-    whole-nonterminal w = rw (← says, e) (w.says ls fs is)
+    pub terminal-in-text : (r : TextPart) → r ≡ terminal_in text i (tables_of n) → Inside text r
+    terminal-in-text r w = rw (whole-terminal r w) (terminal-inside text i)
 
-    pub whole-terminal : TerminalIn text c i r ls → r ≡ terminal_part text i
-    unfolding terminal_part
-    whole-terminal w = rw (← says, e) (w.says ns fs is)
+    module _ (sane : SaneBuilt 0 b n) where
+      kept : Sane 0 n.counts
+      kept = by b (sym d ∙ e) sane
+        where
+          by : (b : Result (Unit {0}) Refused) → is_err b ≡ false → SaneBuilt 0 b n → Sane 0 n.counts
+          by (Ok u) z s = s
+          by (Err x) z s = cc
 
-    pub nonterminal-in-text : NonterminalIn text c i r ns → Inside text r
-    nonterminal-in-text w = rw (whole-nonterminal w) (nonterminal-inside text i)
+      pub names-few : n.counts.names + n.counts.groups ≤ 128
+      names-few = kept.names
 
-    pub terminal-in-text : TerminalIn text c i r ls → Inside text r
-    terminal-in-text w = rw (whole-terminal w) (terminal-inside text i)
-
-module _ (b : Built) (sane : SaneBuilt 0 b) (c : Counts) (e : b ≡ Built.Done c) where
-  kept : Sane 0 c
-  kept = rw e at sane
-
-  pub names-few : c.names + c.groups ≤ 128
-  names-few = kept.names
-
-  pub names-inside : (ns : List ℕ) → 128 ≤ length ns → c.names ≤ length ns
-  names-inside ns h = let s : Sane 0 c = kept in omega (arith, s.names)
-
-  pub literals-inside : (ls : List ℕ) → 4089 ≤ length ls → c.literals ≤ length ls
-  literals-inside ls h = let s : Sane 0 c = kept in omega (arith, s.literals)
+      pub literals-few : n.counts.literals ≤ 4089
+      literals-few = kept.literals

@@ -1,190 +1,179 @@
 // The way back from a grammar's numbers: the part of the text that names a nonterminal or a terminal.
 #![tactic(auto)]
 
-ghost use Rattle.std.specs.Prelude.{◌≡◌, List, true, ℕ, ◌+◌, ◌≤◌, ◌<◌, length, get_or, take, drop, eqb};
+ghost use Rattle.std.specs.Prelude.{◌≡◌, ◌+◌, ◌≤◌, length};
 ghost use Rattle.abnf_tables.specs.Words.{word_at};
-ghost use Rattle.abnf_names.specs.Parts.{no_part, word_part, name_numbered, state_after, group_part, nonterminal_in, terminal_in, nonterminal_part, terminal_part, Inside};
-ghost use Rattle.abnf_names.specs.Noted.{NonterminalIn, TerminalIn};
+ghost use Rattle.abnf_tables.specs.Says.{tables_of};
+ghost use Rattle.abnf_names.specs.Parts.{word_part, name_numbered, state_after, opens, group_part, nonterminal_in, terminal_in, nonterminal_part, terminal_part, Inside};
+ghost use Rattle.abnf_names.specs.Noted.{part_says, state_number};
 
 use abnf_rules::machine::scan;
-use abnf_tables::tables::{Built, Counts};
-use abnf_tables::words::{head_of, index, rank_of};
+use abnf_tables::tables::Notes;
+use abnf_tables::words::{head_of, rank_of};
 
-// The bytes of a text from `start` up to `end`: none where they are the same.
+// The bytes of a text from `start` up to `end`.
 #[derive(Clone, Copy)]
 pub struct TextPart {
     pub start: usize,
     pub end: usize,
 }
 
-fn none() -> TextPart
-    ensures { result ≡ no_part }
-{
-    TextPart { start: 0, end: 0 }
-}
-
 // Where the word that begins at a place ends.
 fn word_end(text: &[u8], quoted: bool, from: usize) -> usize
     ensures { result ≡ from + length (word_at quoted text.now from) }
 {
-    let mut at = from;
-    while at < text.len() {
-        let head = head_of(text, quoted, at);
-        if head == 0 {
+    for at in from..text.len() {
+        if head_of(text, quoted, at) == 0 {
             return at;
         }
-        at += 1;
     }
-    at
+    text.len().max(from)
 }
 
 // The word that begins at a place of the text.
-fn word_part(text: &[u8], quoted: bool, from: usize) -> TextPart
-    ensures { result ≡ word_part quoted text.now from }
+fn word_part(text: &[u8], quoted: bool, from: usize) -> Option<TextPart>
+    ensures { part_says result ≡ word_part quoted text.now from }
 {
     let end = word_end(text, quoted, from);
-    if end <= text.len() {
-        return TextPart {
-            start: from,
-            end: end,
-        };
+    if text.len() < end {
+        return None;
     }
-    none()
+    Some(TextPart { start: from, end })
 }
 
 // The name whose number is `number`.
-fn name_numbered(text: &[u8], names: &[u16], number: u16) -> TextPart
-    ensures { result ≡ name_numbered text.now names.now number names.now }
+fn name_numbered(text: &[u8], names: &[u16], number: u16) -> Option<TextPart>
+    ensures { part_says result ≡ name_numbered text.now names.now number names.now }
 {
-    let mut k: usize = 0;
-    while k < names.len() {
-        let from = index(names[k]);
-        let before = rank_of(text, from, names);
-        if before == index(number) {
+    for &place in names {
+        let from = usize::from(place);
+        if rank_of(text, from, names) == usize::from(number) {
             return word_part(text, false, from);
         }
-        k += 1;
     }
-    none()
+    None
 }
 
-// 0 outside literals and comments, 1 in a literal, 2 in a comment.
-fn state_after(state: u8, b: u8) -> u8
-    ensures { result ≡ state_after state b }
+// What a byte of the rules stands in.
+#[derive(Clone, Copy)]
+enum Within {
+    Rule,
+    Literal,
+    Comment,
+}
+
+// What the next byte stands in.
+#[tactic(auto, unfolding(crate::specs::Parts::state_after))]
+fn state_after(state: Within, b: u8) -> Within
+    ensures { state_number result ≡ state_after (state_number state) b }
 {
-    if state == 0 {
-        if b == 34 {
-            return 1;
+    match state {
+        Within::Rule => match b {
+            b'"' => Within::Literal,
+            b';' => Within::Comment,
+            _ => Within::Rule,
+        },
+        Within::Literal => {
+            if b == b'"' {
+                Within::Rule
+            } else {
+                Within::Literal
+            }
         }
-        if b == 59 {
-            return 2;
+        Within::Comment => {
+            if b == b'\r' {
+                Within::Rule
+            } else {
+                Within::Comment
+            }
         }
-        return 0;
     }
-    if state == 1 {
-        if b == 34 {
-            return 0;
-        }
-        return 1;
+}
+
+// Whether a group begins with a byte.
+fn opens(state: Within, b: u8) -> bool
+    ensures { result ≡ opens (state_number state) b }
+{
+    match state {
+        Within::Rule => b == b'[',
+        _ => false,
     }
-    if b == 13 {
-        return 0;
-    }
-    2
 }
 
 // "[" of the group g.
-fn group_part(text: &[u8], g: u16) -> TextPart
-    ensures { result ≡ group_part 0 g 0 text.now }
+fn group_part(text: &[u8], g: u16) -> Option<TextPart>
+    ensures { part_says result ≡ group_part 0 g 0 text.now }
 {
-    let mut state: u8 = 0;
+    let mut state = Within::Rule;
     let mut left = g;
-    let mut at: usize = 0;
-    while at < text.len() {
-        let b = text[at];
-        let next = at + 1;
-        if state == 0 {
-            if b == 91 {
-                if left == 0 {
-                    return TextPart {
-                        start: at,
-                        end: next,
-                    };
-                }
-                left -= 1;
-                at = next;
-            } else {
-                state = state_after(state, b);
-                at = next;
+    for (at, &b) in text.iter().enumerate() {
+        if opens(state, b) {
+            if left == 0 {
+                return Some(TextPart {
+                    start: at,
+                    end: at + 1,
+                });
             }
-        } else {
-            state = state_after(state, b);
-            at = next;
+            left -= 1;
         }
+        state = state_after(state, b);
     }
-    none()
+    None
 }
 
 // The part that names a nonterminal, by what was noted of the rules.
-pub fn nonterminal_in(text: &[u8], c: Counts, names: &[u16], number: u16) -> TextPart
-    requires { (c.names + c.groups ≤ 128) × (c.names ≤ length names.now) }
-    ensures { NonterminalIn text.now c number result names.now }
+fn nonterminal_in(text: &[u8], notes: &Notes, number: u16) -> Option<TextPart>
+    requires { notes.now.counts.names + notes.now.counts.groups ≤ 128 }
+    ensures { part_says result ≡ nonterminal_in text.now number (tables_of notes.now) }
 {
+    let c = notes.counts;
     if number < c.names {
-        let end = index(c.names);
-        return name_numbered(text, &names[..end], number);
+        let end = usize::from(c.names);
+        return name_numbered(text, &notes.names[..end], number);
     }
     if number < c.names + c.groups {
         return group_part(text, number - c.names);
     }
-    none()
+    None
 }
 
 // The part that names a terminal, by what was noted of the rules.
-pub fn terminal_in(text: &[u8], c: Counts, literals: &[u16], number: u16) -> TextPart
-    requires { c.literals ≤ length literals.now }
-    ensures { TerminalIn text.now c number result literals.now }
+fn terminal_in(text: &[u8], notes: &Notes, number: u16) -> Option<TextPart>
+    requires { notes.now.counts.literals ≤ 4089 }
+    ensures { part_says result ≡ terminal_in text.now number (tables_of notes.now) }
 {
     if number < 5 {
-        return none();
+        return None;
     }
     let x = number - 5;
-    if x < c.literals {
-        let place = index(x);
-        let from = index(literals[place]);
+    if x < notes.counts.literals {
+        let from = usize::from(notes.literals[usize::from(x)]);
         return word_part(text, true, from);
     }
-    none()
+    None
 }
 
 // The part of the text that names a nonterminal: the name of its rule where that first appears, or "[" of its group.
-pub fn nonterminal_part(text: &[u8], number: u16) -> TextPart
-    ensures says { result ≡ nonterminal_part text.now number }
-    ensures inside { Inside text.now result }
+pub fn nonterminal_part(text: &[u8], number: u16) -> Option<TextPart>
+    ensures says { part_says result ≡ nonterminal_part text.now number }
+    ensures inside { Inside text.now (part_says result) }
 {
-    let mut names = [0u16; 128];
-    let mut literals = [0u16; 4089];
-    let mut lefts = [0u16; 128];
-    let mut items = [0u32; 4608];
-    let built = scan(text, &mut names, &mut literals, &mut lefts, &mut items);
-    let Built::Done(c) = built else {
-        return none();
-    };
-    nonterminal_in(text, c, &names, number)
+    let mut notes = Notes::new();
+    if scan(text, &mut notes).is_err() {
+        return None;
+    }
+    nonterminal_in(text, &notes, number)
 }
 
+// Kept: beside `nonterminal_part`. A terminal has one form and no group, and the definitions of the two have nothing in common but the reading.
 // The part of the text that names a terminal: the literal where it first appears, without its quotes.
-pub fn terminal_part(text: &[u8], number: u16) -> TextPart
-    ensures says { result ≡ terminal_part text.now number }
-    ensures inside { Inside text.now result }
+pub fn terminal_part(text: &[u8], number: u16) -> Option<TextPart>
+    ensures says { part_says result ≡ terminal_part text.now number }
+    ensures inside { Inside text.now (part_says result) }
 {
-    let mut names = [0u16; 128];
-    let mut literals = [0u16; 4089];
-    let mut lefts = [0u16; 128];
-    let mut items = [0u32; 4608];
-    let built = scan(text, &mut names, &mut literals, &mut lefts, &mut items);
-    let Built::Done(c) = built else {
-        return none();
-    };
-    terminal_in(text, c, &literals, number)
+    let mut notes = Notes::new();
+    if scan(text, &mut notes).is_err() {
+        return None;
+    }
+    terminal_in(text, &notes, number)
 }

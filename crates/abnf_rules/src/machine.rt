@@ -1,19 +1,16 @@
-// The text, byte by byte: what was read last decides what may follow, and what is read is noted in four lent lists. Each byte is looked at once, the one
+// The text, byte by byte: what was read last decides what may follow, and what is read is noted. Each byte is looked at once, the one
 // behind a quote twice; names and literals are compared where they end.
-ghost use Rattle.std.specs.Prelude.{◌≡◌, List, ℕ, ◌+◌, ◌≤◌, ◌<◌, length, get_or, take};
-ghost use Rattle.abnf_tables.specs.Run.{◌then◌};
-ghost use Rattle.abnf_rules.specs.Machine.{to, breaks, broken, begins, behind, spaced, wanted, equals, empty, longer, inside, whole, fresh, step, finished, scanned, start};
-ghost use Rattle.abnf_tables.specs.Tables.{in_group};
-ghost use Rattle.abnf_tables.specs.Says.{tables_of, tables_say, Sane, SaneBuilt};
-ghost use Rattle.abnf_rules.specs.Steps.{SaneStep, SaneIn, ThenTo, Stays, Looks, Steps, NamesLefts, NamesItems, LiteralsItems, StepsAll, break_line, refusal_of, Finishes};
+ghost use Rattle.std.specs.Prelude.{◌≡◌, List, ℕ, ◌+◌, ◌≤◌, ◌<◌};
+ghost use Rattle.abnf_rules.specs.Machine.{breaks, broken, begins, behind, spaced, wanted, equals, empty, longer, inside, whole, fresh, step, scanned, start};
+ghost use Rattle.abnf_tables.specs.Says.{tables_of, tables_say, no_counts, Sane, SaneBuilt};
+ghost use Rattle.abnf_rules.specs.Steps.{SaneIn, ThenTo, Stays, Steps, break_line, Finishes};
 
-use abnf_tables::tables::{
-    Built, Counts, begin_element, close_group, define_name, end_literal, left_in_hand, open_group,
-    use_name,
-};
+use abnf_tables::refused::{Refused, refuse};
+use abnf_tables::tables::Notes;
 use abnf_tables::words::{
-    byte_at, index, is_blank, is_comment_byte, is_letter, is_literal_byte, is_name_byte,
+    byte_at, is_blank, is_comment_byte, is_letter, is_literal_byte, is_name_byte,
 };
+use refusals::Refusal;
 
 // What was read last, and so what may follow. A number is the place where a name begins, or a literal's quote.
 #[derive(Clone, Copy)]
@@ -37,493 +34,326 @@ pub enum Line {
     Ended,
 }
 
+// The state behind a byte.
 #[derive(Clone, Copy)]
-pub enum Step {
-    Next {
-        line: Line,
-        mode: Mode,
-        counts: Counts,
-    },
-    Refused {
-        number: u16,
-        place: u16,
-    },
+pub struct Next {
+    pub line: Line,
+    pub mode: Mode,
 }
 
-fn wrong(place: u16) -> Step
-    ensures { result ≡ Step.Refused 18 place }
+// On to a line and a mode.
+fn go_to(line: Line, mode: Mode) -> Result<Next, Refused>
+    ensures { result ≡ Ok (record { line = line; mode = mode }) }
 {
-    Step::Refused {
-        number: 18,
-        place: place,
-    }
+    Ok(Next { line, mode })
 }
 
-fn next(line: Line, mode: Mode, c: Counts) -> Step
-    ensures { result ≡ Step.Next line mode c }
+// On to a mode, unless what was to be noted is refused.
+fn then_to(noted: Result<(), Refused>, mode: Mode) -> Result<Next, Refused>
+    ensures { ThenTo mode noted result }
 {
-    Step::Next {
-        line: line,
-        mode: mode,
-        counts: c,
-    }
+    noted?;
+    go_to(Line::Inside, mode)
 }
 
-// On to a mode with what was built.
-fn then_to(built: Built, mode: Mode) -> Step
-    ensures { ThenTo mode built result }
-{
-    match built {
-        Built::Done(c) => next(Line::Inside, mode, c),
-        Built::Refused { number, place } => Step::Refused {
-            number: number,
-            place: place,
-        },
-    }
-}
-
+// The end of a line, or the start of a comment.
 fn is_break(b: u8) -> bool
     ensures { result ≡ breaks b }
 {
-    (b == 13) | (b == 59)
+    b == b'\r' || b == b';'
 }
 
 // The line ends, or its comment begins.
-fn break_at(b: u8, mode: Mode, c: Counts) -> Step
-    requires { SaneIn mode c }
-    ensures { Stays (broken b mode) c result }
+fn break_at(b: u8, mode: Mode) -> Result<Next, Refused>
+    ensures { Stays (broken b mode) (SaneIn mode) result }
 {
-    if b == 59 {
-        return next(Line::Comment, mode, c);
+    if b == b';' {
+        return go_to(Line::Comment, mode);
     }
-    next(Line::Return, mode, c)
+    go_to(Line::Return, mode)
 }
 
 // An element begins: a name, a literal that is not empty, or a group.
-fn begin(text: &[u8], at: u16, b: u8, c: Counts, lefts: &mut [u16], items: &mut [u32]) -> Step
-    requires { Sane 0 c × (at < 32768) × (128 ≤ length lefts.old) × (4608 ≤ length items.old) }
-    ensures { Steps (begins text.now at b) c result lefts.old lefts.new
-        items.old items.new }
+fn begin(text: &[u8], at: u16, b: u8, notes: &mut Notes) -> Result<Next, Refused>
+    requires { Sane 0 notes.old.counts × (at < 32768) }
+    ensures { Steps (begins text.now at b) notes.old result notes.new }
 {
     if is_letter(b) {
-        return then_to(begin_element(at, c, items), Mode::Name(at));
+        return then_to(notes.begin_element(at), Mode::Name(at));
     }
-    if b == 34 {
-        if byte_at(text, index(at) + 1) == 34 {
-            return wrong(at);
+    if b == b'"' {
+        if byte_at(text, usize::from(at) + 1) == b'"' {
+            return refuse(Refusal::BadSyntax, at);
         }
-        return then_to(begin_element(at, c, items), Mode::Quote(at));
+        return then_to(notes.begin_element(at), Mode::Quote(at));
     }
-    if b == 91 {
-        let built = begin_element(at, c, items);
-        let Built::Done(d) = built else {
-            return then_to(built, Mode::Want);
-        };
-        return then_to(open_group(at, d, lefts, items), Mode::Want);
+    if b == b'[' {
+        notes.begin_element(at)?;
+        return then_to(notes.open_group(at), Mode::Want);
     }
-    wrong(at)
-}
-
-fn in_group(c: Counts, lefts: &[u16]) -> bool
-    requires { c.lefts ≤ length lefts.now }
-    ensures { (ns ls is : List ℕ) → result ≡ in_group (tables_of c ns ls lefts.now is) }
-{
-    128 <= left_in_hand(lefts, c.lefts, c.left)
+    refuse(Refusal::BadSyntax, at)
 }
 
 // Behind an element: a blank, "/", or "]" of a group.
-fn step_behind(at: u16, b: u8, c: Counts, lefts: &[u16], items: &[u32]) -> Step
-    requires { Sane 0 c × (128 ≤ length lefts.now) × (4608 ≤ length items.now) }
-    ensures { Looks (behind at b) c result lefts.now items.now }
+fn step_behind(at: u16, b: u8, notes: &mut Notes) -> Result<Next, Refused>
+    requires { Sane 0 notes.old.counts }
+    ensures { Steps (behind at b) notes.old result notes.new }
 {
     if is_break(b) {
-        return break_at(b, Mode::Spaced, c);
+        return break_at(b, Mode::Spaced);
     }
     if is_blank(b) {
-        return next(Line::Inside, Mode::Spaced, c);
+        return go_to(Line::Inside, Mode::Spaced);
     }
-    if b == 47 {
-        let mut d = c;
-        d.size = 0;
-        return next(Line::Inside, Mode::Want, d);
+    if b == b'/' {
+        notes.counts.size = 0;
+        return go_to(Line::Inside, Mode::Want);
     }
-    if b == 93 {
-        if in_group(c, lefts) {
-            return next(Line::Inside, Mode::After, close_group(c, lefts, items));
+    if b == b']' {
+        if notes.in_group() {
+            notes.close_group();
+            return go_to(Line::Inside, Mode::After);
         }
-        return wrong(at);
+        return refuse(Refusal::BadSyntax, at);
     }
-    wrong(at)
+    refuse(Refusal::BadSyntax, at)
 }
 
-fn step_spaced(text: &[u8], at: u16, b: u8, c: Counts, lefts: &mut [u16], items: &mut [u32]) -> Step
-    requires { Sane 0 c × (at < 32768) × (128 ≤ length lefts.old) × (4608 ≤ length items.old) }
-    ensures { Steps (spaced text.now at b) c result lefts.old lefts.new
-        items.old items.new }
+// Behind an element and a blank: the next one, too.
+fn step_spaced(text: &[u8], at: u16, b: u8, notes: &mut Notes) -> Result<Next, Refused>
+    requires { Sane 0 notes.old.counts × (at < 32768) }
+    ensures { Steps (spaced text.now at b) notes.old result notes.new }
 {
     let alpha = is_letter(b);
-    let begun = alpha | ((b == 34) | (b == 91));
+    let begun = alpha | ((b == b'"') | (b == b'['));
     if begun {
-        return begin(text, at, b, c, lefts, items);
+        return begin(text, at, b, notes);
     }
-    step_behind(at, b, c, lefts, items)
+    step_behind(at, b, notes)
 }
 
-fn step_wanted(text: &[u8], at: u16, b: u8, c: Counts, lefts: &mut [u16], items: &mut [u32]) -> Step
-    requires { Sane 0 c × (at < 32768) × (128 ≤ length lefts.old) × (4608 ≤ length items.old) }
-    ensures { Steps (wanted text.now at b) c result lefts.old lefts.new
-        items.old items.new }
+// Where an element is wanted.
+fn step_wanted(text: &[u8], at: u16, b: u8, notes: &mut Notes) -> Result<Next, Refused>
+    requires { Sane 0 notes.old.counts × (at < 32768) }
+    ensures { Steps (wanted text.now at b) notes.old result notes.new }
 {
     if is_break(b) {
-        return break_at(b, Mode::Want, c);
+        return break_at(b, Mode::Want);
     }
     if is_blank(b) {
-        return next(Line::Inside, Mode::Want, c);
+        return go_to(Line::Inside, Mode::Want);
     }
-    begin(text, at, b, c, lefts, items)
+    begin(text, at, b, notes)
 }
 
-fn step_equals(at: u16, b: u8, c: Counts) -> Step
-    requires { Sane 0 c }
-    ensures { Stays (equals at b) c result }
+// Where "=" is wanted.
+fn step_equals(at: u16, b: u8) -> Result<Next, Refused>
+    ensures { Stays (equals at b) (Sane 0) result }
 {
     if is_break(b) {
-        return break_at(b, Mode::Equals, c);
+        return break_at(b, Mode::Equals);
     }
     if is_blank(b) {
-        return next(Line::Inside, Mode::Equals, c);
+        return go_to(Line::Inside, Mode::Equals);
     }
-    if b == 61 {
-        return next(Line::Inside, Mode::Want, c);
+    if b == b'=' {
+        return go_to(Line::Inside, Mode::Want);
     }
-    wrong(at)
+    refuse(Refusal::BadSyntax, at)
 }
 
-fn step_empty(at: u16, b: u8, c: Counts) -> Step
-    requires { Sane 0 c }
-    ensures { Stays (empty at b) c result }
+// In a line without a rule.
+fn step_empty(at: u16, b: u8) -> Result<Next, Refused>
+    ensures { Stays (empty at b) (Sane 0) result }
 {
     if is_break(b) {
-        return break_at(b, Mode::Blank, c);
+        return break_at(b, Mode::Blank);
     }
     if is_blank(b) {
-        return next(Line::Inside, Mode::Blank, c);
+        return go_to(Line::Inside, Mode::Blank);
     }
-    wrong(at)
+    refuse(Refusal::BadSyntax, at)
 }
 
 // One more byte of a name or a literal, of which those from `from` on may go up to `most` more.
-fn step_longer(at: u16, most: u16, from: u16, mode: Mode, c: Counts) -> Step
-    requires { SaneIn mode c × (from < 32768) × (most ≤ 65) }
-    ensures { Stays (longer at (from + most) from mode) c result }
+fn step_longer(at: u16, most: u16, from: u16, mode: Mode) -> Result<Next, Refused>
+    requires { (from < 32768) × (most ≤ 65) }
+    ensures { Stays (longer at (from + most) from mode) (SaneIn mode) result }
 {
     if from + most <= at {
-        return Step::Refused {
-            number: 20,
-            place: from,
-        };
+        return refuse(Refusal::LimitPassed, from);
     }
-    next(Line::Inside, mode, c)
+    go_to(Line::Inside, mode)
 }
 
 // In the name of a rule.
-fn step_naming(
-    text: &[u8],
-    at: u16,
-    b: u8,
-    from: u16,
-    c: Counts,
-    names: &mut [u16],
-    lefts: &mut [u16],
-) -> Step
-    requires { Sane 0 c × (from < 32768) × (128 ≤ length names.old) × (128 ≤ length lefts.old) }
-    ensures { NamesLefts (inside text.now at b (Mode.Naming from)) c result names.old
-        names.new lefts.old lefts.new }
+fn step_naming(text: &[u8], at: u16, b: u8, from: u16, notes: &mut Notes) -> Result<Next, Refused>
+    requires { Sane 0 notes.old.counts × (from < 32768) }
+    ensures { Steps (inside text.now at b (Mode.Naming from)) notes.old result notes.new }
 {
     if is_name_byte(b) {
-        return step_longer(at, 64, from, Mode::Naming(from), c);
+        return step_longer(at, 64, from, Mode::Naming(from));
     }
-    let built = define_name(text, from, c, names, lefts);
-    let Built::Done(d) = built else {
-        return then_to(built, Mode::Equals);
-    };
-    step_equals(at, b, d)
+    notes.define_name(text, from)?;
+    step_equals(at, b)
 }
 
 // In a name that is used.
-fn step_name(
-    text: &[u8],
-    at: u16,
-    b: u8,
-    from: u16,
-    c: Counts,
-    names: &mut [u16],
-    lefts: &[u16],
-    items: &mut [u32],
-) -> Step
-    requires { Sane 1 c × (from < 32768) × (128 ≤ length names.old) × (128 ≤ length lefts.now)
-        × (4608 ≤ length items.old) }
-    ensures { NamesItems (inside text.now at b (Mode.Name from)) c result names.old
-        names.new lefts.now items.old items.new }
+fn step_name(text: &[u8], at: u16, b: u8, from: u16, notes: &mut Notes) -> Result<Next, Refused>
+    requires { Sane 1 notes.old.counts × (from < 32768) }
+    ensures { Steps (inside text.now at b (Mode.Name from)) notes.old result notes.new }
 {
     if is_name_byte(b) {
-        return step_longer(at, 64, from, Mode::Name(from), c);
+        return step_longer(at, 64, from, Mode::Name(from));
     }
-    let built = use_name(text, from, c, names, items);
-    let Built::Done(d) = built else {
-        return then_to(built, Mode::After);
-    };
-    step_behind(at, b, d, lefts, items)
+    notes.use_name(text, from)?;
+    step_behind(at, b, notes)
 }
 
 // In a literal.
-fn step_quote(
-    text: &[u8],
-    at: u16,
-    b: u8,
-    from: u16,
-    c: Counts,
-    literals: &mut [u16],
-    items: &mut [u32],
-) -> Step
-    requires { Sane 1 c × (from < 32768) × (4089 ≤ length literals.old) × (4608 ≤ length items.old) }
-    ensures { LiteralsItems (inside text.now at b (Mode.Quote from)) c result literals.old
-        literals.new items.old items.new }
+fn step_quote(text: &[u8], at: u16, b: u8, from: u16, notes: &mut Notes) -> Result<Next, Refused>
+    requires { Sane 1 notes.old.counts × (from < 32768) }
+    ensures { Steps (inside text.now at b (Mode.Quote from)) notes.old result notes.new }
 {
     if is_literal_byte(b) {
-        return step_longer(at, 65, from, Mode::Quote(from), c);
+        return step_longer(at, 65, from, Mode::Quote(from));
     }
-    if b == 34 {
-        return then_to(end_literal(text, from + 1, c, literals, items), Mode::After);
+    if b == b'"' {
+        return then_to(notes.end_literal(text, from + 1), Mode::After);
     }
-    wrong(at)
+    refuse(Refusal::BadSyntax, at)
 }
 
 // The bytes of a line.
-fn step_inside(
-    text: &[u8],
-    at: u16,
-    b: u8,
-    mode: Mode,
-    c: Counts,
-    names: &mut [u16],
-    literals: &mut [u16],
-    lefts: &mut [u16],
-    items: &mut [u32],
-) -> Step
-    requires { SaneIn mode c × (at < 32768) × (128 ≤ length names.old) × (4089 ≤ length literals.old)
-        × (128 ≤ length lefts.old) × (4608 ≤ length items.old) }
-    ensures { StepsAll (inside text.now at b mode) c result names.old names.new
-        literals.old literals.new lefts.old lefts.new items.old
-        items.new }
+fn step_inside(text: &[u8], at: u16, b: u8, mode: Mode, notes: &mut Notes) -> Result<Next, Refused>
+    requires { SaneIn mode notes.old.counts × (at < 32768) }
+    ensures { Steps (inside text.now at b mode) notes.old result notes.new }
 {
     match mode {
-        Mode::Blank => step_empty(at, b, c),
-        Mode::Naming(from) => step_naming(text, at, b, from, c, names, lefts),
-        Mode::Equals => step_equals(at, b, c),
-        Mode::Want => step_wanted(text, at, b, c, lefts, items),
-        Mode::Name(from) => step_name(text, at, b, from, c, names, lefts, items),
-        Mode::Quote(from) => step_quote(text, at, b, from, c, literals, items),
-        Mode::After => step_behind(at, b, c, lefts, items),
-        Mode::Spaced => step_spaced(text, at, b, c, lefts, items),
+        Mode::Blank => step_empty(at, b),
+        Mode::Naming(from) => step_naming(text, at, b, from, notes),
+        Mode::Equals => step_equals(at, b),
+        Mode::Want => step_wanted(text, at, b, notes),
+        Mode::Name(from) => step_name(text, at, b, from, notes),
+        Mode::Quote(from) => step_quote(text, at, b, from, notes),
+        Mode::After => step_behind(at, b, notes),
+        Mode::Spaced => step_spaced(text, at, b, notes),
     }
 }
 
 // Whether a rule, or a line without one, may end.
-fn is_whole(mode: Mode, c: Counts, lefts: &[u16]) -> bool
-    requires { c.lefts ≤ length lefts.now }
-    ensures { (ns ls is : List ℕ) → result ≡ whole mode (tables_of c ns ls lefts.now is) }
+fn is_whole(mode: Mode, notes: &Notes) -> bool
+    requires { notes.now.counts.lefts ≤ 128 }
+    ensures { result ≡ whole mode (tables_of notes.now) }
 {
     match mode {
         Mode::Blank => true,
-        Mode::Naming(_) => false,
-        Mode::Equals => false,
-        Mode::Want => false,
-        Mode::Name(_) => false,
-        Mode::Quote(_) => false,
-        Mode::After => false,
-        Mode::Spaced => !in_group(c, lefts),
+        Mode::Spaced => !notes.in_group(),
+        _ => false,
     }
 }
 
 // The first byte of a line that continues none.
-fn step_fresh(at: u16, b: u8, c: Counts) -> Step
-    requires { Sane 0 c × (at < 32768) }
-    ensures { Stays (fresh at b) c result }
+fn step_fresh(at: u16, b: u8) -> Result<Next, Refused>
+    requires { at < 32768 }
+    ensures { Stays (fresh at b) (Sane 0) result }
 {
     if is_letter(b) {
-        return next(Line::Inside, Mode::Naming(at), c);
+        return go_to(Line::Inside, Mode::Naming(at));
     }
     if is_break(b) {
-        return break_at(b, Mode::Blank, c);
+        return break_at(b, Mode::Blank);
     }
-    wrong(at)
+    refuse(Refusal::BadSyntax, at)
 }
 
 // The byte behind a line's end.
-fn step_ended(at: u16, b: u8, mode: Mode, c: Counts, lefts: &[u16]) -> Step
-    requires { SaneIn mode c × (at < 32768) × (128 ≤ length lefts.now) }
-    ensures { (text is : List ℕ) → Looks (step text at b Line.Ended mode) c result lefts.now is }
+fn step_ended(at: u16, b: u8, mode: Mode, notes: &Notes) -> Result<Next, Refused>
+    requires { SaneIn mode notes.now.counts × (at < 32768) }
+    ensures { (text : List ℕ) → Steps (step text at b Line.Ended mode) notes.now result notes.now }
 {
     if is_blank(b) {
-        return next(Line::Inside, mode, c);
+        return go_to(Line::Inside, mode);
     }
-    if is_whole(mode, c, lefts) {
-        return step_fresh(at, b, c);
+    if is_whole(mode, notes) {
+        return step_fresh(at, b);
     }
-    wrong(at)
+    refuse(Refusal::BadSyntax, at)
 }
 
 // A byte of a comment, or the one behind a CR.
-fn step_break(at: u16, b: u8, comment: bool, mode: Mode, c: Counts) -> Step
-    requires { SaneIn mode c }
-    ensures { (text : List ℕ) → Stays (step text at b (break_line comment) mode) c result }
+fn step_break(at: u16, b: u8, comment: bool, mode: Mode) -> Result<Next, Refused>
+    ensures { (text : List ℕ) → Stays (step text at b (break_line comment) mode) (SaneIn mode) result }
 {
     if comment {
         if is_comment_byte(b) {
-            return next(Line::Comment, mode, c);
+            return go_to(Line::Comment, mode);
         }
-        if b == 13 {
-            return next(Line::Return, mode, c);
+        if b == b'\r' {
+            return go_to(Line::Return, mode);
         }
-        return wrong(at);
+        return refuse(Refusal::BadSyntax, at);
     }
-    if b == 10 {
-        return next(Line::Ended, mode, c);
+    if b == b'\n' {
+        return go_to(Line::Ended, mode);
     }
-    wrong(at)
+    refuse(Refusal::BadSyntax, at)
 }
 
 // One byte.
-fn step_byte(
-    text: &[u8],
-    at: u16,
-    b: u8,
-    line: Line,
-    mode: Mode,
-    c: Counts,
-    names: &mut [u16],
-    literals: &mut [u16],
-    lefts: &mut [u16],
-    items: &mut [u32],
-) -> Step
-    requires { SaneIn mode c × (at < 32768) × (128 ≤ length names.old) × (4089 ≤ length literals.old)
-        × (128 ≤ length lefts.old) × (4608 ≤ length items.old) }
-    ensures { StepsAll (step text.now at b line mode) c result names.old names.new
-        literals.old literals.new lefts.old lefts.new items.old
-        items.new }
+fn step_byte(text: &[u8], at: u16, b: u8, state: Next, notes: &mut Notes) -> Result<Next, Refused>
+    requires { SaneIn state.mode notes.old.counts × (at < 32768) }
+    ensures { Steps (step text.now at b state.line state.mode) notes.old result notes.new }
 {
-    match line {
-        Line::Inside => step_inside(text, at, b, mode, c, names, literals, lefts, items),
-        Line::Comment => step_break(at, b, true, mode, c),
-        Line::Return => step_break(at, b, false, mode, c),
-        Line::Ended => step_ended(at, b, mode, c, lefts),
-    }
-}
-
-fn unfinished(at: u16) -> Built
-    ensures { result ≡ Built.Refused 18 at }
-{
-    Built::Refused {
-        number: 18,
-        place: at,
+    match state.line {
+        Line::Inside => step_inside(text, at, b, state.mode, notes),
+        Line::Comment => step_break(at, b, true, state.mode),
+        Line::Return => step_break(at, b, false, state.mode),
+        Line::Ended => step_ended(at, b, state.mode, notes),
     }
 }
 
 // The text has ended behind a line.
-fn finish_line(at: u16, mode: Mode, c: Counts, lefts: &[u16]) -> Built
-    requires { SaneIn mode c × (128 ≤ length lefts.now) }
-    ensures { Finishes at Line.Ended mode c result lefts.now }
+fn finish_line(at: u16, mode: Mode, notes: &Notes) -> Result<(), Refused>
+    requires { SaneIn mode notes.now.counts }
+    ensures { Finishes at Line.Ended mode notes.now result }
 {
-    if is_whole(mode, c, lefts) {
-        if 1 <= c.items {
-            return Built::Done(c);
+    if is_whole(mode, notes) {
+        if 1 <= notes.counts.items {
+            return Ok(());
         }
-        return unfinished(at);
+        return refuse(Refusal::BadSyntax, at);
     }
-    unfinished(at)
+    refuse(Refusal::BadSyntax, at)
 }
 
 // The text has ended.
-fn finish(at: u16, line: Line, mode: Mode, c: Counts, lefts: &[u16]) -> Built
-    requires { SaneIn mode c × (128 ≤ length lefts.now) }
-    ensures { Finishes at line mode c result lefts.now }
+fn finish(at: u16, state: Next, notes: &Notes) -> Result<(), Refused>
+    requires { SaneIn state.mode notes.now.counts }
+    ensures { Finishes at state.line state.mode notes.now result }
 {
-    match line {
-        Line::Inside => unfinished(at),
-        Line::Comment => unfinished(at),
-        Line::Return => unfinished(at),
-        Line::Ended => finish_line(at, mode, c, lefts),
+    match state.line {
+        Line::Ended => finish_line(at, state.mode, notes),
+        _ => refuse(Refusal::BadSyntax, at),
     }
 }
 
-// The whole text.
-pub fn scan(
-    text: &[u8],
-    names: &mut [u16],
-    literals: &mut [u16],
-    lefts: &mut [u16],
-    items: &mut [u32],
-) -> Built
-    requires { (128 ≤ length names.old) × (4089 ≤ length literals.old) × (128 ≤ length lefts.old)
-        × (4608 ≤ length items.old) }
-    ensures { (tables_say result names.new literals.new lefts.new items.new
-        ≡ scanned text.now 0 text.now start) × SaneBuilt 0 result }
+// The whole text, with nothing noted before.
+pub fn scan(text: &[u8], notes: &mut Notes) -> Result<(), Refused>
+    requires { notes.old.counts ≡ no_counts }
+    ensures says { tables_say result notes.new ≡ scanned text.now 0 text.now start }
+    ensures sane { SaneBuilt 0 result notes.new }
 {
-    let mut line = Line::Ended;
-    let mut mode = Mode::Blank;
-    let mut c = Counts {
-        names: 0,
-        literals: 0,
-        lefts: 0,
-        items: 0,
-        groups: 0,
-        productions: 0,
-        symbols: 0,
-        left: 0,
-        size: 0,
+    let mut state = Next {
+        line: Line::Ended,
+        mode: Mode::Blank,
     };
-    let mut at: u16 = 0;
-    while index(at) < text.len() {
+    for (i, &b) in text.iter().enumerate() {
+        let at = i as u16;
         if 32768 <= at {
-            return Built::Refused {
-                number: 20,
-                place: at,
-            };
+            return refuse(Refusal::LimitPassed, at);
         }
-        let b = byte_at(text, index(at));
-        let answer = step_byte(text, at, b, line, mode, c, names, literals, lefts, items);
-        let Step::Next {
-            line: l,
-            mode: m,
-            counts: d,
-        } = answer
-        else {
-            return refusal(answer);
-        };
-        line = l;
-        mode = m;
-        c = d;
-        at += 1;
+        state = step_byte(text, at, b, state, notes)?;
     }
-    finish(at, line, mode, c, lefts)
-}
-
-fn refusal(answer: Step) -> Built
-    ensures { result ≡ refusal_of answer }
-{
-    match answer {
-        Step::Next {
-            line: _,
-            mode: _,
-            counts: _,
-        } => Built::Refused {
-            number: 0,
-            place: 0,
-        },
-        Step::Refused { number, place } => Built::Refused {
-            number: number,
-            place: place,
-        },
-    }
+    finish(text.len() as u16, state, notes)
 }

@@ -4,43 +4,23 @@ use native.Mathlib.Omega.{arith}
 use native.Mathlib.Decide.{dec_lt}
 use native.Mathlib.Numerals.{add-one}
 use mathlib.Core.Path.{◌≡◌, refl, sym, ap, ◌∙◌, subst}
-use mathlib.Core.Bool.{Bool, true, false, ◌&&◌, true≢false, false≢true}
-use mathlib.Core.List.{List}
-use borrow.Author.Count.{below_more}
+use mathlib.Core.Bool.{Bool, true, false, ◌&&◌}
+use mathlib.Core.List.{List, [], ◌∷◌}
 use borrow.Author.Tests.{le-leb, lt-leb}
 use lib.Dec.{leb}
-use lib.ListN.{length, get_or, length-append}
+use lib.ListN.{length, get_or, take, length-append}
+use lib.Seq.{take-suc}
 use Rattle.k_tuples.specs.Work.{got, refused}
 use Rattle.decision_theory.specs.Needed.{each_from}
-use Rattle.decision_theory.specs.Automaton.{State, state_numbers, automata_bytes, all_small}
-use Rattle.cfg.specs.Write.{write_number, write_numbers}
+use Rattle.decision_theory.specs.Automaton.{State, automata_bytes, all_small}
 use Rattle.trees.specs.Answer.{bytes_of}
-use Rattle.trees.proofs.Writing.{size-one, size-two}
-use Rattle.automaton.specs.declared.answer.Automata.{Automata}
-use Rattle.automaton.specs.Steps.{SizeIs, AllSized, sum_to, Zeros, Totals, Tells, Fitting, answer_for}
+use Rattle.std.specs.Prelude.{sum, Result, Ok, Err}
+use Rattle.std.proofs.lemmas.List.Sums.{sum_by-append}
+use Rattle.refusals.specs.declared.Refusal.{Refusal}
+use Rattle.refusals.specs.declared.Refusal.TheVariants.{LentTooFew}
+use Rattle.automaton.specs.Steps.{OneLarge, AllSized, sum_to, Totals, Fitting, answer_for}
 
 -- ---- the loops
-
-pub record Seeks (n : ℕ) (sizes : List ℕ) (a : ℕ) : Type 0 where
-  pub below : a ≤ n
-  pub none : (A : ℕ) → A < a → ¬ get_or sizes A 0 ≡ 0
-
--- nothing was looked at
-pub seeks-start : (n : ℕ) (sizes : List ℕ) → Seeks n sizes 0
-seeks-start n sizes = record { below = omega arith; none = λ A h. absurd (omega arith) }
-
-module _ {n : ℕ} {sizes : List ℕ} {a : ℕ} (l : Seeks n sizes a) where
-  -- another than 0 is passed
-  pub seeks-more : a < n → (get_or sizes a 0 ≡ 0 → ⊥) → Seeks n sizes (a + 1)
-  seeks-more h e = record { below = omega arith; none = below_more _ a l.none e }
-
-  -- a 0 is found
-  pub seeks-found : a < n → get_or sizes a 0 ≡ 0 → Zeros n sizes true
-  seeks-found h e = record { some = λ _. (a, h, e); none = λ q. absurd (true≢false q) }
-
-  -- none is 0
-  pub seeks-end : n ≤ a → Zeros n sizes false
-  seeks-end h = record { some = λ q. absurd (false≢true q); none = λ _ A k. l.none A (omega arith) }
 
 -- one size more
 pub sum_more : (sizes : List ℕ) (a : ℕ) → sum_to sizes (a + 1) ≡ sum_to sizes a + get_or sizes a 0
@@ -76,7 +56,7 @@ module _ {n : ℕ} {sizes : List ℕ} {room at a : ℕ} (l : Sums n sizes room a
   sums-more h e = let i = l.inside in record { below = omega arith; is = ap (λ (b : ℕ). b + get_or sizes a 0) l.is ∙ sym (sum_more sizes a); inside = omega arith }
 
   -- it does not
-  pub sums-short : a < n → room - at < get_or sizes a 0 → Totals n sizes room (record { refusal = 10; bytes = 0 })
+  pub sums-short : a < n → room - at < get_or sizes a 0 → Totals n sizes room (Err LentTooFew)
   sums-short h e =
       let i = l.inside in
       let s = l.is in
@@ -85,45 +65,22 @@ module _ {n : ℕ} {sizes : List ℕ} {room at a : ℕ} (l : Sums n sizes room a
       Totals.short (omega arith) refl
 
   -- all fit
-  pub sums-end : n ≤ a → Totals n sizes room (record { refusal = 0; bytes = at })
+  pub sums-end : n ≤ a → Totals n sizes room (Ok at)
   sums-end h =
       let same : a ≡ n = omega (arith, l.below) in
       let s : at ≡ sum_to sizes n = l.is ∙ ap (sum_to sizes) same in
-      Totals.fits (let i = l.inside in omega arith) (ap (λ (b : ℕ). record { refusal = 0; bytes = b }) s)
+      Totals.fits (let i = l.inside in omega arith) (ap Ok s)
 
--- the place of one
-module _ {sizes : List ℕ} {room at i : ℕ} where
-  -- a sum that fits goes on
-  pub place-more : {a : ℕ} → Sums a sizes room at i → i < a → sum_to sizes a ≤ room → Sums a sizes room (at + get_or sizes i 0) (i + 1)
-  place-more {a} l h e =
-      let s = l.is in
-      let m = sum_more sizes i in
-      let o = sum-upto sizes (i + 1) a (omega arith) in
-      sums-more l h (omega arith)
-
-  -- the sum is the place
-  pub place_end : {a : ℕ} → Sums a sizes room at i → a ≤ i → at ≡ sum_to sizes a
-  place_end {a} l h = let same : i ≡ a = omega (arith, l.below) in l.is ∙ ap (sum_to sizes) same
+-- the sum of the first of them, as the place of one is worked out
+pub sum-taken : (sizes : List ℕ) (a : ℕ) → a ≤ length sizes → sum (take a sizes) ≡ sum_to sizes a
+unfolding sum_to
+sum-taken sizes zero h = refl
+sum-taken sizes (suc a) h =
+    let more = sum-taken sizes a (omega arith) in
+    let split = ap sum (take-suc sizes a 0 (omega arith)) ∙ sum_by-append (λ (x : ℕ). x) (take a sizes) (get_or sizes a 0 ∷ []) in
+    omega arith
 
 -- ---- the trees
-
--- a tree has some bytes
-bytes-some : (S : List State) → 1 ≤ length (bytes_of S)
-bytes-some S = let l = length-append (write_number (length S)) (write_numbers (state_numbers S)) in by (dec_lt (length S) 128) l
-  where
-    by : Dec (length S < 128) → length (bytes_of S) ≡ length (write_number (length S)) + length (write_numbers (state_numbers S)) → 1 ≤ length (bytes_of S)
-    by (yes h) l = let e = size-one (length S) h in omega arith
-    by (no h) l = let e = size-two (length S) (omega arith) in omega arith
-
--- a size other than 0 is that of a tree that is small
-pub sized-bytes : {S : List State} {r : ℕ} → SizeIs S r → ¬ r ≡ 0 → (length S ≤ 2048) × (r ≡ length (bytes_of S))
-sized-bytes (SizeIs.too_many z b) n = absurd (n z)
-sized-bytes (SizeIs.bytes b e) n = (b, e)
-
--- and 0 that of one that is not
-pub sized-many : {S : List State} {r : ℕ} → SizeIs S r → r ≡ 0 → 2048 < length S
-sized-many (SizeIs.too_many z b) e = b
-sized-many {S} (SizeIs.bytes b q) e = absurd (let s = bytes-some S in omega arith)
 
 module _ (T : ℕ → List State) where
   -- all trees are small
@@ -161,42 +118,40 @@ module _ (T : ℕ → List State) where
       let z : i + suc n ≡ suc i + n = omega arith in
       ap (λ (m : ℕ). sum_to sizes i + m) l ∙ (let y : sum_to sizes i + (length (bytes_of (T i)) + length (automata_bytes (each_from T (suc i) n))) ≡ sum_to sizes i + get_or sizes i 0 + length (automata_bytes (each_from T (suc i) n)) = omega arith in y) ∙ more ∙ ap (sum_to sizes) (sym z)
 
+-- one tree has too many states: that is told first
+pub large-answer : {T : ℕ → List State} {n : ℕ} → OneLarge T n → (room : ℕ) → answer_for room (each_from T 0 n) ≡ refused 23
+unfolding answer_for
+large-answer {T} {n} l room = rw (one-large T 0 n l.which (omega arith) (let h = l.inside in omega arith) l.many) refl
+
 module _ {T : ℕ → List State} {n : ℕ} {sizes : List ℕ} (sized : AllSized T n sizes) where
   -- the sum of the sizes is the number of all bytes
-  pub sum_is : ((A : ℕ) → A < n → ¬ get_or sizes A 0 ≡ 0) → length (automata_bytes (each_from T 0 n)) ≡ sum_to sizes n
+  pub sum_is : length (automata_bytes (each_from T 0 n)) ≡ sum_to sizes n
   unfolding sum_to
-  sum_is some = let z : 0 + n ≡ n = omega arith in let y : length (automata_bytes (each_from T 0 n)) ≡ 0 + length (automata_bytes (each_from T 0 n)) = omega arith in y ∙ sums-bytes T sizes 0 n (λ A a b. (sized-bytes (sized.each A (omega arith)) (some A (omega arith))).1) ∙ ap (sum_to sizes) z
+  sum_is = let z : 0 + n ≡ n = omega arith in let y : length (automata_bytes (each_from T 0 n)) ≡ 0 + length (automata_bytes (each_from T 0 n)) = omega arith in y ∙ sums-bytes T sizes 0 n (λ A a b. (sized.each A (omega arith)).is) ∙ ap (sum_to sizes) z
 
-  -- sizes other than 0 are those of small trees
-  all_small_lem : ((A : ℕ) → A < n → ¬ get_or sizes A 0 ≡ 0) → all_small (each_from T 0 n) ≡ true
-  all_small_lem some = each-small T 0 n (λ A a b. (sized-bytes (sized.each A (omega arith)) (some A (omega arith))).0)
+  -- all trees are small
+  all-few : all_small (each_from T 0 n) ≡ true
+  all-few = each-small T 0 n (λ A a b. (sized.each A (omega arith)).few)
 
-  -- ---- what is told is the answer
-
-  module _ {room : ℕ} {r : Automata} where
-    -- a refusal that is told is the definition's
-    pub told-refused : Tells n sizes room r → (r.refusal ≡ 0 → ⊥) → (m : ℕ) × (answer_for room (each_from T 0 n) ≡ refused m) × (r ≡ record { refusal = m; bytes = 0 })
+  module _ {room : ℕ} {r : Result ℕ Refusal} (totals : Totals n sizes room r) where
+    -- too few bytes are told
+    pub total-short : (e : Refusal) → r ≡ Err e → (e ≡ LentTooFew) × (answer_for room (each_from T 0 n) ≡ refused 10)
     unfolding answer_for
-    told-refused (Tells.many A h z e) ne = (23, rw (one-large T 0 n A (omega arith) (omega arith) (sized-many (sized.each A h) z)), e)
-    told-refused (Tells.total some (Totals.short h e)) ne = (10, rw (all_small_lem some, lt-leb (length (automata_bytes (each_from T 0 n))) room (omega (arith, sum_is some))), e)
-    told-refused (Tells.total some (Totals.fits h e)) ne = absurd (ne (ap (λ (x : Automata). x.refusal) e))
+    total-short e z = by totals
+      where
+        by : Totals n sizes room r → (e ≡ LentTooFew) × (answer_for room (each_from T 0 n) ≡ refused 10)
+        by (Totals.short h q) = (let x : Err e ≡ Err LentTooFew = sym z ∙ q in cc, rw (all-few, lt-leb (length (automata_bytes (each_from T 0 n))) room (omega (arith, sum_is))) refl)
+        by (Totals.fits h q) = let x : Ok (sum_to sizes n) ≡ Err e = sym q ∙ z in let y : ◌≡◌ {A = ℕ} 0 1 = cc in absurd (omega arith)
 
-    -- where none is told, all bytes fit
-    pub told-fits : Tells n sizes room r → r.refusal ≡ 0
-        → Fitting T n sizes room × (answer_for room (each_from T 0 n) ≡ got (automata_bytes (each_from T 0 n))) × (r ≡ record { refusal = 0; bytes = length (automata_bytes (each_from T 0 n)) })
+    -- or how many there are, and all fit
+    pub total-fits : (bytes : ℕ) → r ≡ Ok bytes → Fitting T n sizes room × (answer_for room (each_from T 0 n) ≡ got (automata_bytes (each_from T 0 n))) × (bytes ≡ length (automata_bytes (each_from T 0 n)))
     unfolding answer_for
-    told-fits (Tells.many A h z e) ne = absurd (let q : r.refusal ≡ 23 = ap (λ (x : Automata). x.refusal) e in omega arith)
-    told-fits (Tells.total some (Totals.short h e)) ne = absurd (let q : r.refusal ≡ 10 = ap (λ (x : Automata). x.refusal) e in omega arith)
-    told-fits (Tells.total some (Totals.fits h e)) ne = (
-      record { sized = sized; small = some; fits = h },
-      rw (all_small_lem some, le-leb (length (automata_bytes (each_from T 0 n))) room (omega (arith, sum_is some))),
-      e ∙ ap (λ (b : ℕ). record { refusal = 0; bytes = b }) (sym (sum_is some)),
-    )
-
--- the test of zeros, and then the sum
-pub tells-many : {n : ℕ} {sizes : List ℕ} {b : Bool} (room : ℕ) → Zeros n sizes b → b ≡ true → Tells n sizes room (record { refusal = 23; bytes = 0 })
-tells-many room z e = let (A, h, q) = z.some e in Tells.many A h q refl
-
--- no size is 0
-pub tells-total : {n : ℕ} {sizes : List ℕ} {b : Bool} {room : ℕ} {r : Automata} → Zeros n sizes b → b ≡ false → Totals n sizes room r → Tells n sizes room r
-tells-total z e t = Tells.total (z.none e) t
+    total-fits bytes z = by totals
+      where
+        by : Totals n sizes room r → Fitting T n sizes room × (answer_for room (each_from T 0 n) ≡ got (automata_bytes (each_from T 0 n))) × (bytes ≡ length (automata_bytes (each_from T 0 n)))
+        by (Totals.short h q) = let x : Err LentTooFew ≡ Ok bytes = sym q ∙ z in let y : ◌≡◌ {A = ℕ} 0 1 = cc in absurd (omega arith)
+        by (Totals.fits h q) = (
+          record { sized = sized; fits = h },
+          rw (all-few, le-leb (length (automata_bytes (each_from T 0 n))) room (omega (arith, sum_is))) refl,
+          let x : Ok (sum_to sizes n) ≡ Ok bytes = sym q ∙ z in let y : sum_to sizes n ≡ bytes = cc in sym y ∙ sym sum_is,
+        )

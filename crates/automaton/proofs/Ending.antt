@@ -1,7 +1,7 @@
 -- The call's ways out: what is told, written and wiped is what the definition has. Assumes nothing.
 use Prim.Native.Nat.{ℕ, zero, suc, ◌+◌, ◌<◌}
 use native.Mathlib.Omega.{arith}
-use mathlib.Core.Path.{◌≡◌, refl, sym, ap, ap₂, ◌∙◌}
+use mathlib.Core.Path.{◌≡◌, refl, sym, ap, ap₂, ◌∙◌, subst}
 use mathlib.Core.List.{List, [], ◌∷◌, ◌++◌, map}
 use lib.ListN.{length, drop}
 use Rattle.k_tuples.specs.Work.{Answer, got, refused}
@@ -10,54 +10,84 @@ use Rattle.decision_theory.specs.Needed.{Decided, decide, each_from}
 use Rattle.decision_theory.specs.Automaton.{State, automaton, automata_bytes, all_decided, automata}
 use Rattle.decision_theory.proofs.Automaton.{lowest-refused}
 use Rattle.decision.specs.declared.Layout.{Layout}
-use Rattle.decision.specs.declared.Needed.{Needed}
-use Rattle.decision.specs.Call.{Promised as Answered}
-use Rattle.decision.specs.Steps.{grammar_of, Given}
+use Rattle.decision.specs.declared.Links.{Links}
+use Rattle.decision.specs.Call.{Record, Promised as Answered}
+use Rattle.decision.specs.Steps.{grammar_of, Given, Beyond}
 use Rattle.decision.specs.Onward.{first_refusal, Wiped}
 use Rattle.decision.proofs.Onward.{needed-decided}
 use Rattle.decision.proofs.Going.{answers_of, Onward, refused-whole, refused-one, goes_on}
 use Rattle.decision.proofs.Further.{wiped-on, how, call_known, call-reached, wiped-after}
-use Rattle.automaton.specs.declared.answer.Automata.{Automata}
-use Rattle.automaton.specs.Call.{record_of, bytes_after, Promised}
-use Rattle.automaton.specs.Steps.{tree, tree_by, Measured, Tells, Wrote, answer_for, Done}
-use Rattle.automaton.proofs.Counting.{told-refused, told-fits, sum_is}
+use Rattle.std.specs.Prelude.{Result, Ok, Err}
+use Rattle.refusals.specs.declared.Refusal.{Refusal}
+use Rattle.refusals.specs.declared.Refusal.TheVariants.{TooManyStates}
+use Rattle.automaton.specs.Call.{recorded, record_of, bytes_after, Promised}
+use Rattle.automaton.specs.declared.task.Task.{Task}
+use Rattle.engine.specs.Call.{wiped}
+use Rattle.automaton.specs.Steps.{trees_of, tree, tree_by, AllSized, Sizes, Measured, Totals, Wrote, answer_for, Made, Done}
+use Rattle.automaton.proofs.Counting.{large-answer, total-short, total-fits, sum_is}
 
 -- ---- where every nonterminal is decided
 
-module _ (limit c : ℕ) (table : List ℕ) (n : ℕ) (out result scratch sizes result₁ scratch₁ : List ℕ) (measured : Measured limit c table n result scratch sizes result₁ scratch₁) {r : Automata} (told : Tells n sizes (length out) r) where
+module _ (task : Task) (out result scratch : List ℕ) where
   abbrev T : ℕ → List State
-  T = tree limit c (grammar_of table)
+  T = trees_of task
 
-  -- a refusal: nothing is written
-  pub trees-refused : (r.refusal ≡ 0 → ⊥) → {result₂ scratch₂ : List ℕ} → Wiped c (grammar_of table) result₁ scratch₁ result₂ scratch₂ → Done limit c table n out result scratch r out result₂ scratch₂
-  unfolding record_of bytes_after
-  trees-refused ne w =
-      let (m, e, q) = told-refused measured.sized told ne in
-      record {
-        answer = rw e q;
-        out-bytes = rw e refl;
-        result_words = wiped-on (result_needs c (grammar_of table)) result result₁ measured.beyond.result-beyond w.result_words;
-        scratch-words = wiped-on (scratch_needs c (grammar_of table)) scratch scratch₁ measured.beyond.scratch-beyond w.scratch-words;
-      }
+  abbrev n : ℕ
+  n = task.layout.n
 
-  -- no refusal: the bytes are written
-  pub trees-written : r.refusal ≡ 0 → {out' result₂ scratch₂ result₃ scratch₃ : List ℕ} → Wrote limit c table n sizes out result₁ scratch₁ out' result₂ scratch₂ → Wiped c (grammar_of table) result₂ scratch₂ result₃ scratch₃
-      → Done limit c table n out result scratch r out' result₃ scratch₃
+  -- a tree of too many states: nothing is written
+  pub made-over : {r : Result (List ℕ) Refusal} {result₁ scratch₁ : List ℕ} → Measured task result scratch r result₁ scratch₁ → (e : Refusal) → r ≡ Err e → Made task out result scratch (Err e) out result₁ scratch₁
   unfolding record_of bytes_after
-  trees-written z {out'} {result₂} {scratch₂} w v =
-      let (fit, e, q) = told-fits measured.sized told z in
-      let sum : length (automata_bytes (each_from T 0 n)) ≡ _ = sum_is measured.sized fit.small in
-      record {
-        answer = rw e q;
-        out-bytes = rw e (w.written ∙ ap (λ (m : ℕ). automata_bytes (each_from T 0 n) ++ drop m out) (sym sum));
-        result_words = wiped-on (result_needs c (grammar_of table)) result result₂ (w.beyond.result-beyond ∙ measured.beyond.result-beyond) v.result_words;
-        scratch-words = wiped-on (scratch_needs c (grammar_of table)) scratch scratch₂ (w.beyond.scratch-beyond ∙ measured.beyond.scratch-beyond) v.scratch-words;
-      }
+  made-over {r} {result₁} {scratch₁} m e z = by m.sizes
+    where
+      by : Sizes T n r → Made task out result scratch (Err e) out result₁ scratch₁
+      by (Sizes.over q l) =
+          let a = large-answer l (length out) in
+          let x : Err e ≡ Err TooManyStates = sym z ∙ q in
+          let k : e ≡ TooManyStates = cc in
+          record { answer = rw (a, k) refl; out-bytes = rw a refl; beyond = m.beyond }
+      by (Sizes.sized sizes q s) = let x : Ok sizes ≡ Err e = sym q ∙ z in let y : ◌≡◌ {A = ℕ} 0 1 = cc in absurd (omega arith)
+
+  -- where the sizes are told, they are all trees'
+  pub all-sized : {r : Result (List ℕ) Refusal} {result₁ scratch₁ : List ℕ} → Measured task result scratch r result₁ scratch₁ → (sizes : List ℕ) → r ≡ Ok sizes → AllSized T n sizes
+  all-sized {r} m sizes z = by m.sizes
+    where
+      by : Sizes T n r → AllSized T n sizes
+      by (Sizes.over q l) = let x : Err TooManyStates ≡ Ok sizes = sym q ∙ z in let y : ◌≡◌ {A = ℕ} 0 1 = cc in absurd (omega arith)
+      by (Sizes.sized others q s) = let x : Ok others ≡ Ok sizes = sym q ∙ z in let same : others ≡ sizes = cc in subst (AllSized T n) same s
+
+  module _ {sizes : List ℕ} (sized : AllSized T n sizes) {t : Result ℕ Refusal} (totals : Totals n sizes (length out) t) where
+    -- too few bytes: nothing is written
+    pub made-short : {result₁ scratch₁ : List ℕ} → Beyond task.c (grammar_of task.table.now) result scratch result₁ scratch₁ → (e : Refusal) → t ≡ Err e → Made task out result scratch (Err e) out result₁ scratch₁
+    unfolding record_of bytes_after
+    made-short b e z = let (k, a) = total-short sized totals e z in record { answer = rw (a, k) refl; out-bytes = rw a refl; beyond = b }
+
+    -- no refusal: the bytes are written
+    pub made-all : {result₁ scratch₁ : List ℕ} → Beyond task.c (grammar_of task.table.now) result scratch result₁ scratch₁ → (bytes : ℕ) → t ≡ Ok bytes → {out' result₂ scratch₂ : List ℕ}
+        → Wrote task sizes out result₁ scratch₁ out' result₂ scratch₂ → Made task out result scratch (Ok bytes) out' result₂ scratch₂
+    unfolding record_of bytes_after
+    made-all b bytes z w =
+        let (fit, a, q) = total-fits sized totals bytes z in
+        record {
+          answer = rw (a, q) refl;
+          out-bytes = rw a (w.written ∙ ap (λ (m : ℕ). automata_bytes (each_from T 0 n) ++ drop m out) (sym (sum_is sized)));
+          beyond = record { result-beyond = w.beyond.result-beyond ∙ b.result-beyond; scratch-beyond = w.beyond.scratch-beyond ∙ b.scratch-beyond };
+        }
+
+  -- both buffers are wiped
+  pub made-wiped : {r : Result ℕ Refusal} {out' result₁ scratch₁ result₂ scratch₂ : List ℕ} → Made task out result scratch r out' result₁ scratch₁ → Wiped task.c (grammar_of task.table.now) result₁ scratch₁ result₂ scratch₂
+      → Done task out result scratch r out' result₂ scratch₂
+  made-wiped {result₁ = result₁} {scratch₁ = scratch₁} m w = record {
+    answer = m.answer;
+    out-bytes = m.out-bytes;
+    result_words = wiped-on (result_needs task.c (grammar_of task.table.now)) result result₁ m.beyond.result-beyond w.result_words;
+    scratch-words = wiped-on (scratch_needs task.c (grammar_of task.table.now)) scratch scratch₁ m.beyond.scratch-beyond w.scratch-words;
+  }
 
 -- ---- the whole call
 
 -- a layout has the grammar's nonterminals
-pub planned-n : {limit c : ℕ} {table : List ℕ} {u : Layout} {links : List ℕ} {m n : ℕ} → Given limit c table u links m n → u.n ≡ (grammar_of table).n
+pub planned-n : {limit c : ℕ} {table : List ℕ} {u : Layout} {links : Links} {m n : ℕ} → Given limit c table u links m n → u.n ≡ (grammar_of table).n
 planned-n given = given.sized.n
 
 -- decisions that are all got, and their trees
@@ -72,7 +102,7 @@ decided-trees F i (suc n) h =
     let f : F i ≡ got d = ap F (sym z) ∙ e in
     (d ∷ ds, rw (f, q), ap₂ (λ (S : List State) (R : List (List State)). S ∷ R) (ap tree_by (sym f)) t)
 
-module _ (limit c : ℕ) (table result scratch result₁ scratch₁ : List ℕ) (d : Needed) (answers : Answered limit c table result scratch d result₁ scratch₁) {x : ℕ} (first : x ≡ first_refusal d.refusal d.refusals) where
+module _ (limit c : ℕ) (table result scratch result₁ scratch₁ : List ℕ) (d : Record) (answers : Answered limit c table result scratch d result₁ scratch₁) {x : ℕ} (first : x ≡ first_refusal d.refusal d.refusals) where
   -- a refusal of K3 is passed on
   pub call-refused : (out : List ℕ) → (x ≡ 0 → ⊥) → Promised limit c table out result scratch (record { refusal = x; bytes = 0 }) out result₁ scratch₁
   unfolding record_of bytes_after automata
@@ -95,14 +125,16 @@ module _ (limit c : ℕ) (table result scratch result₁ scratch₁ : List ℕ) 
         rw ((call-reached limit c table result scratch result₁ scratch₁ d answers first z).called, e, t) refl
 
     -- the outcome by the trees is that of the definition
-    pub call-done : (out : List ℕ) {n : ℕ} {r : Automata} {out₂ result₂ scratch₂ : List ℕ} → n ≡ (grammar_of table).n → Done limit c table n out result₁ scratch₁ r out₂ result₂ scratch₂ → Promised limit c table out result scratch r out₂ result₂ scratch₂
-    call-done out {n} {r} {out₂} e done =
-        let (R, S) = wiped-after limit c table result scratch result₁ scratch₁ d answers first z (record { result_words = done.result_words; scratch-words = done.scratch-words }) in
+    pub call-done : (out : List ℕ) (r : Result ℕ Refusal) {n : ℕ} {out₂ result₂ scratch₂ : List ℕ} → n ≡ (grammar_of table).n
+        → recorded r ≡ record_of (answer_for (length out) (each_from (tree limit c (grammar_of table)) 0 n)) → out₂ ≡ bytes_after out (answer_for (length out) (each_from (tree limit c (grammar_of table)) 0 n))
+        → result₂ ≡ wiped (result_needs c (grammar_of table)) result₁ → scratch₂ ≡ wiped (scratch_needs c (grammar_of table)) scratch₁ → Promised limit c table out result scratch (recorded r) out₂ result₂ scratch₂
+    call-done out r {n} {out₂} e told written R₁ S₁ =
+        let (R, S) = wiped-after limit c table result scratch result₁ scratch₁ d answers first z (record { result_words = R₁; scratch-words = S₁ }) in
         let same : answer_for (length out) (each_from (tree limit c (grammar_of table)) 0 n) ≡ automata limit c table (length result) (length scratch) (length out) =
         ap (λ (m : ℕ). answer_for (length out) (each_from (tree limit c (grammar_of table)) 0 m)) e ∙ sym (answer-is (length out)) in
         record {
-          answer = done.answer ∙ ap record_of same;
-          out-bytes = done.out-bytes ∙ ap (bytes_after out) same;
+          answer = told ∙ ap record_of same;
+          out-bytes = written ∙ ap (bytes_after out) same;
           result_words = R;
           scratch-words = S;
         }

@@ -11,8 +11,7 @@ use Rattle.decision_theory.specs.Automaton.{automaton, automata_bytes, AllAre, A
 use Rattle.decision_theory.proofs.Kept.{automata-all, automata-only, automata-right}
 use Rattle.decision.specs.Call.{words_after}
 use Rattle.decision.proofs.Further.{whole-between, one-between}
-use Rattle.automaton.specs.declared.answer.Automata.{Automata}
-use Rattle.automaton.specs.Call.{record_of, bytes_after, Promised}
+use Rattle.automaton.specs.Call.{Automata, record_of, bytes_after, Promised}
 use Rattle.automaton.specs.Promises.{AutomataOne, AutomataAnswers, WholePassed, LowestPassed, TwentyThreeExactly, TenExactly, NothingWritten, BuffersUntouched, BuffersWiped, WrittenRight, NotRefused}
 
 pub automata-one : AutomataOne

@@ -5,3 +5,4 @@ pub mod Placing
 pub mod Passes
 pub mod Ending
 pub mod Kept
+pub mod Known

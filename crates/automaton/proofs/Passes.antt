@@ -10,36 +10,40 @@ use lib.Seq.{get_or-set_same, get_or-set_other}
 use Rattle.k_tuples.specs.Work.{got}
 use Rattle.decision_theory.specs.Needed.{needed_k}
 use Rattle.decision_theory.specs.Automaton.{State}
-use Rattle.trees.specs.Answer.{bytes_of}
-use Rattle.decision.specs.declared.Layout.{Layout}
-use Rattle.decision.specs.Steps.{grammar_of, Given, Beyond}
-use Rattle.decision.specs.Onward.{Known, KJoined}
+use Rattle.std.specs.Prelude.{Result, Ok, Err}
+use Rattle.refusals.specs.declared.Refusal.{Refusal}
+use Rattle.refusals.specs.declared.Refusal.TheVariants.{TooManyStates}
+use Rattle.trees.specs.Answer.{SizeTold, bytes_of}
+use Rattle.decision.specs.Steps.{grammar_of, Beyond}
+use Rattle.decision.specs.Onward.{KJoined}
 use Rattle.decision.proofs.Further.{at-most-ten}
-use Rattle.automaton.specs.Steps.{tree, Planned, KStands, SizeIs, KMeasured, Measured, sum_to, Laid, Fitting, Parts, KWritten, Wrote}
+use Rattle.automaton.specs.declared.task.Task.{Task}
+use Rattle.automaton.specs.Steps.{trees_of, Ready, Planned, KStands, SizeIs, KMeasured, SizesPut, Sizes, Measured, sum_to, Laid, Fitting, Parts, KWritten, Wrote}
+use Rattle.automaton.proofs.Sizing.{size-over}
 use Rattle.automaton.proofs.Placing.{laid-start, laid-all}
 
--- what is given is planned
-pub planned : {limit c : ℕ} {table : List ℕ} {u : Layout} {links : List ℕ} {result scratch : ℕ} → Given limit c table u links result scratch → Planned limit c table u links
-planned given = record { on = given.on; sized = given.sized; fit = given.fit; sides = given.sides }
+-- what is ready is planned
+pub planned : {task : Task} {m n : ℕ} → Ready task m n → Planned task
+planned ready = let given = ready.given in record { on = given.on; sized = given.sized; fit = given.fit; sides = given.sides }
 
 -- ---- the sets of one k
 
-module _ {limit c : ℕ} {table : List ℕ} {u : Layout} {links ks : List ℕ} (result scratch : List ℕ) (given : Given limit c table u links (length result) (length scratch)) (known : Known limit c (grammar_of table) ks) where
+module _ {task : Task} (result scratch : List ℕ) (ready : Ready task (length result) (length scratch)) where
   -- what the list of k says
-  needs : {A k : ℕ} → A < u.n → get_or ks A 0 ≡ k → needed_k c (grammar_of table) A limit ≡ got k
-  needs {A} h e = known.each A (omega (arith, given.sized.n)) ∙ ap got e
+  needs : {A k : ℕ} → A < task.layout.n → get_or task.ks.now A 0 ≡ k → needed_k task.c (grammar_of task.table.now) A task.limit ≡ got k
+  needs {A} h e = ready.known.each A (omega (arith, ready.given.sized.n)) ∙ ap got e
 
   -- where k is 0 nothing is made
-  pub none-stand : {k : ℕ} → k ≡ 0 → KStands limit c table u k ks result scratch result scratch
+  pub none-stand : {k : ℕ} → k ≡ 0 → KStands task k result scratch result scratch
   none-stand z = record {
     all = record { each = λ A h e. record { needs = needs h e; joined = λ l. absurd (omega arith) } };
     beyond = record { result-beyond = refl; scratch-beyond = refl };
   }
 
   -- else the joined sets stand
-  pub joined-stand : {k : ℕ} {result' scratch' : List ℕ} → KJoined limit c k (grammar_of table) u ks result scratch result' scratch' → KStands limit c table u k ks result scratch result' scratch'
+  pub joined-stand : {k : ℕ} {result' scratch' : List ℕ} → KJoined task.limit task.c k (grammar_of task.table.now) task.layout task.ks.now result scratch result' scratch' → KStands task k result scratch result' scratch'
   joined-stand j = record {
-    all = record { each = λ A h e. record { needs = needs h e; joined = λ l. j.each A (omega (arith, given.sized.n)) e } };
+    all = record { each = λ A h e. record { needs = needs h e; joined = λ l. j.each A (omega (arith, ready.given.sized.n)) e } };
     beyond = j.beyond;
   }
 
@@ -78,25 +82,29 @@ module _ {T : ℕ → List State} {n k : ℕ} {ks sizes₀ sizes : List ℕ} {a 
   }
 
   -- all were seen
-  pub measures-end : n ≤ a → KMeasured T k n ks sizes₀ sizes
-  measures-end h = let same : a ≡ n = omega (arith, l.below) in subst (λ (m : ℕ). KMeasured T k m ks sizes₀ sizes) same l.so_far
+  pub measures-end : n ≤ a → SizesPut T k n ks sizes₀ sizes (Ok tt)
+  measures-end h = let same : a ≡ n = omega (arith, l.below) in SizesPut.put refl (subst (λ (m : ℕ). KMeasured T k m ks sizes₀ sizes) same l.so_far)
+
+  -- or one has too many states
+  pub measures-over : a < n → {r : Result ℕ Refusal} → SizeTold (T a) r → (e : Refusal) → r ≡ Err e → SizesPut T k n ks sizes₀ sizes (Err e)
+  measures-over h s e z = let (q, b) = size-over s e z in SizesPut.over (ap Err q) (record { which = a; inside = h; many = b })
 
 -- what both loops over k keep
-pub record Kept (limit c : ℕ) (table : List ℕ) (u : Layout) (links result₀ scratch₀ result scratch : List ℕ) : Type 0 where
-  pub given : Given limit c table u links (length result) (length scratch)
-  pub beyond : Beyond c (grammar_of table) result₀ scratch₀ result scratch
+pub record Kept (task : Task) (result₀ scratch₀ result scratch : List ℕ) : Type 0 where
+  pub ready : Ready task (length result) (length scratch)
+  pub beyond : Beyond task.c (grammar_of task.table.now) result₀ scratch₀ result scratch
   pub result-long : length result ≡ length result₀
   pub scratch-long : length scratch ≡ length scratch₀
 
 -- nothing was done
-pub kept-start : {limit c : ℕ} {table : List ℕ} {u : Layout} {links result scratch : List ℕ} → Given limit c table u links (length result) (length scratch) → Kept limit c table u links result scratch result scratch
-kept-start given = record { given = given; beyond = record { result-beyond = refl; scratch-beyond = refl }; result-long = refl; scratch-long = refl }
+pub kept-start : {task : Task} {result scratch : List ℕ} → Ready task (length result) (length scratch) → Kept task result scratch result scratch
+kept-start ready = record { ready = ready; beyond = record { result-beyond = refl; scratch-beyond = refl }; result-long = refl; scratch-long = refl }
 
-module _ {limit c : ℕ} {table : List ℕ} {u : Layout} {links result₀ scratch₀ result scratch : List ℕ} (w : Kept limit c table u links result₀ scratch₀ result scratch) where
+module _ {task : Task} {result₀ scratch₀ result scratch : List ℕ} (w : Kept task result₀ scratch₀ result scratch) where
   -- the sets of one k were made
-  pub kept_more : {result' scratch' : List ℕ} → Beyond c (grammar_of table) result scratch result' scratch' → length result' ≡ length result → length scratch' ≡ length scratch → Kept limit c table u links result₀ scratch₀ result' scratch'
+  pub kept_more : {result' scratch' : List ℕ} → Beyond task.c (grammar_of task.table.now) result scratch result' scratch' → length result' ≡ length result → length scratch' ≡ length scratch → Kept task result₀ scratch₀ result' scratch'
   kept_more b e f = record {
-    given = rw (e, f) w.given;
+    ready = rw (e, f) w.ready;
     beyond = record { result-beyond = b.result-beyond ∙ w.beyond.result-beyond; scratch-beyond = b.scratch-beyond ∙ w.beyond.scratch-beyond };
     result-long = e ∙ w.result-long;
     scratch-long = f ∙ w.scratch-long;
@@ -111,86 +119,96 @@ below_next x k h n = by (dec_lt x k)
     by (no l) = absurd (n (omega arith))
 
 -- the loop over k: the trees of every k below this one are measured
-pub record Measures (limit c : ℕ) (table : List ℕ) (u : Layout) (links ks result₀ scratch₀ result scratch sizes : List ℕ) (k : ℕ) : Type 0 where
-  pub kept : Kept limit c table u links result₀ scratch₀ result scratch
-  pub known : Known limit c (grammar_of table) ks
+pub record Measures (task : Task) (result₀ scratch₀ result scratch sizes : List ℕ) (k : ℕ) : Type 0 where
+  pub kept : Kept task result₀ scratch₀ result scratch
   pub below : k ≤ 11
   pub long : length sizes ≡ 128
-  pub done : (A : ℕ) → A < u.n → get_or ks A 0 < k → SizeIs (tree limit c (grammar_of table) A) (get_or sizes A 0)
+  pub done : (A : ℕ) → A < task.layout.n → get_or task.ks.now A 0 < k → SizeIs (trees_of task A) (get_or sizes A 0)
 
 -- no tree is measured
-pub measuring-start : {limit c : ℕ} {table : List ℕ} {u : Layout} {links ks result scratch : List ℕ} → Given limit c table u links (length result) (length scratch) → Known limit c (grammar_of table) ks
-    → Measures limit c table u links ks result scratch result scratch (replicate 128 0) 0
-measuring-start given known = record { kept = kept-start given; known = known; below = omega arith; long = length-replicate {A = ℕ} 128 0; done = λ A h l. absurd (omega arith) }
+pub measuring-start : {task : Task} {result scratch : List ℕ} → Ready task (length result) (length scratch)
+    → Measures task result scratch result scratch (replicate 128 0) 0
+measuring-start ready = record { kept = kept-start ready; below = omega arith; long = length-replicate {A = ℕ} 128 0; done = λ A h l. absurd (omega arith) }
 
-module _ {limit c : ℕ} {table : List ℕ} {u : Layout} {links ks result₀ scratch₀ result scratch sizes : List ℕ} {k : ℕ} (w : Measures limit c table u links ks result₀ scratch₀ result scratch sizes k) where
+module _ {task : Task} {result₀ scratch₀ result scratch sizes : List ℕ} {k : ℕ} (w : Measures task result₀ scratch₀ result scratch sizes k) where
   -- those of one k more are
-  pub measuring-more : {result' scratch' sizes' : List ℕ} → k < 11 → KStands limit c table u k ks result scratch result' scratch' → KMeasured (tree limit c (grammar_of table)) k u.n ks sizes sizes'
-      → length result' ≡ length result → length scratch' ≡ length scratch → Measures limit c table u links ks result₀ scratch₀ result' scratch' sizes' (k + 1)
+  pub measuring-more : {result' scratch' sizes' : List ℕ} → k < 11 → KStands task k result scratch result' scratch' → KMeasured (trees_of task) k task.layout.n task.ks.now sizes sizes'
+      → length result' ≡ length result → length scratch' ≡ length scratch → Measures task result₀ scratch₀ result' scratch' sizes' (k + 1)
   measuring-more {result'} {scratch'} {sizes'} h s m e f = record {
     kept = kept_more w.kept s.beyond e f;
-    known = w.known;
     below = omega arith;
     long = m.long ∙ w.long;
-    done = λ A a l. by A a l (ℕ_discrete (get_or ks A 0) k);
+    done = λ A a l. by A a l (ℕ_discrete (get_or task.ks.now A 0) k);
   }
     where
-      by : (A : ℕ) → A < u.n → get_or ks A 0 < k + 1 → Dec (get_or ks A 0 ≡ k) → SizeIs (tree limit c (grammar_of table) A) (get_or sizes' A 0)
+      by : (A : ℕ) → A < task.layout.n → get_or task.ks.now A 0 < k + 1 → Dec (get_or task.ks.now A 0 ≡ k) → SizeIs (trees_of task A) (get_or sizes' A 0)
       by A a l (yes q) = m.these A a q
-      by A a l (no q) = subst (SizeIs (tree limit c (grammar_of table) A)) (sym (m.others A q)) (w.done A a (below_next (get_or ks A 0) k l q))
+      by A a l (no q) = subst (SizeIs (trees_of task A)) (sym (m.others A q)) (w.done A a (below_next (get_or task.ks.now A 0) k l q))
+
+  -- one has too many states
+  pub measuring-over : {result' scratch' sizes' : List ℕ} → KStands task k result scratch result' scratch' → length result' ≡ length result → length scratch' ≡ length scratch
+      → {r : Result (Unit {0}) Refusal} → SizesPut (trees_of task) k task.layout.n task.ks.now sizes sizes' r → (e : Refusal) → r ≡ Err e → Measured task result₀ scratch₀ (Err e) result' scratch'
+  measuring-over {sizes' = sizes'} s f g {r} m e z = record { sizes = by m; beyond = (kept_more w.kept s.beyond f g).beyond }
+    where
+      by : SizesPut (trees_of task) k task.layout.n task.ks.now sizes sizes' r → Sizes (trees_of task) task.layout.n (Err e)
+      by (SizesPut.over q l) = let x : Err e ≡ Err TooManyStates = sym z ∙ q in let k : e ≡ TooManyStates = cc in Sizes.over (ap Err k) l
+      by (SizesPut.put q p) = let x : Ok tt ≡ Err e = sym q ∙ z in let y : ◌≡◌ {A = ℕ} 0 1 = cc in absurd (omega arith)
+
+  -- those of one k more are put down
+  pub put-down : {sizes' : List ℕ} {r : Result (Unit {0}) Refusal} → SizesPut (trees_of task) k task.layout.n task.ks.now sizes sizes' r → {x : Unit {0}} → r ≡ Ok x → KMeasured (trees_of task) k task.layout.n task.ks.now sizes sizes'
+  put-down (SizesPut.over q l) {x} z = let d : Err TooManyStates ≡ Ok x = sym q ∙ z in let y : ◌≡◌ {A = ℕ} 0 1 = cc in absurd (omega arith)
+  put-down (SizesPut.put q p) z = p
 
   -- all are
-  pub measuring-end : 11 ≤ k → Measured limit c table u.n result₀ scratch₀ sizes result scratch
+  pub measuring-end : 11 ≤ k → Measured task result₀ scratch₀ (Ok sizes) result scratch
   measuring-end h = record {
-    sized = record { each = λ A a. w.done A a (let t = at-most-ten w.kept.given.on w.known A (omega (arith, w.kept.given.sized.n)) in omega arith); long = w.long };
+    sizes = Sizes.sized sizes refl (record { each = λ A a. w.done A a (let t = at-most-ten w.kept.ready.given.on w.kept.ready.known A (omega (arith, w.kept.ready.given.sized.n)) in omega arith); long = w.long });
     beyond = w.kept.beyond;
   }
 
 -- ---- the bytes
 
 -- the loop over k: the trees of every k below this one are written
-pub record Writing (limit c : ℕ) (table : List ℕ) (u : Layout) (links ks sizes out₀ result₀ scratch₀ out result scratch : List ℕ) (k : ℕ) : Type 0 where
-  pub kept : Kept limit c table u links result₀ scratch₀ result scratch
-  pub known : Known limit c (grammar_of table) ks
+pub record Writing (task : Task) (sizes out₀ result₀ scratch₀ out result scratch : List ℕ) (k : ℕ) : Type 0 where
+  pub kept : Kept task result₀ scratch₀ result scratch
   pub below : k ≤ 11
-  pub fitting : Fitting (tree limit c (grammar_of table)) u.n sizes (length out)
+  pub fitting : Fitting (trees_of task) task.layout.n sizes (length out)
   pub out-long : length out ≡ length out₀
   pub parts : List (List ℕ)
-  pub laid : Laid u.n sizes parts (drop (sum_to sizes u.n) out₀) out
-  pub done : (A : ℕ) → A < u.n → get_or ks A 0 < k → get_or parts A [] ≡ bytes_of (tree limit c (grammar_of table) A)
+  pub laid : Laid task.layout.n sizes parts (drop (sum_to sizes task.layout.n) out₀) out
+  pub done : (A : ℕ) → A < task.layout.n → get_or task.ks.now A 0 < k → get_or parts A [] ≡ bytes_of (trees_of task A)
 
 -- no tree is written
-pub writing_start : {limit c : ℕ} {table : List ℕ} {u : Layout} {links ks sizes : List ℕ} (out : List ℕ) {result scratch : List ℕ} → Given limit c table u links (length result) (length scratch) → Known limit c (grammar_of table) ks
-    → Fitting (tree limit c (grammar_of table)) u.n sizes (length out) → Writing limit c table u links ks sizes out result scratch out result scratch 0
-writing_start {u = u} {sizes = sizes} out given known fitting =
-    let (parts, laid) = laid-start u.n sizes out fitting.fits in
-    record { kept = kept-start given; known = known; below = omega arith; fitting = fitting; out-long = refl; parts = parts; laid = laid; done = λ A h l. absurd (omega arith) }
+pub writing_start : {task : Task} {sizes : List ℕ} (out : List ℕ) {result scratch : List ℕ} → Ready task (length result) (length scratch)
+    → Fitting (trees_of task) task.layout.n sizes (length out) → Writing task sizes out result scratch out result scratch 0
+writing_start {task = task} {sizes = sizes} out ready fitting =
+    let (parts, laid) = laid-start task.layout.n sizes out fitting.fits in
+    record { kept = kept-start ready; below = omega arith; fitting = fitting; out-long = refl; parts = parts; laid = laid; done = λ A h l. absurd (omega arith) }
 
-module _ {limit c : ℕ} {table : List ℕ} {u : Layout} {links ks sizes out₀ result₀ scratch₀ out result scratch : List ℕ} {k : ℕ} (w : Writing limit c table u links ks sizes out₀ result₀ scratch₀ out result scratch k) where
+module _ {task : Task} {sizes out₀ result₀ scratch₀ out result scratch : List ℕ} {k : ℕ} (w : Writing task sizes out₀ result₀ scratch₀ out result scratch k) where
   -- those of one k more are
-  pub writing_more : {out' result' scratch' : List ℕ} → k < 11 → KStands limit c table u k ks result scratch result' scratch' → KWritten (tree limit c (grammar_of table)) u.n k u.n ks sizes out out'
-      → length result' ≡ length result → length scratch' ≡ length scratch → Writing limit c table u links ks sizes out₀ result₀ scratch₀ out' result' scratch' (k + 1)
+  pub writing_more : {out' result' scratch' : List ℕ} → k < 11 → KStands task k result scratch result' scratch' → KWritten (trees_of task) task.layout.n k task.layout.n task.ks.now sizes out out'
+      → length result' ≡ length result → length scratch' ≡ length scratch → Writing task sizes out₀ result₀ scratch₀ out' result' scratch' (k + 1)
   writing_more {out'} {result'} {scratch'} h s m e f =
-      let (parts, laid, told) = m.step w.parts (drop (sum_to sizes u.n) out₀) w.laid in
+      let (parts, laid, told) = m.step w.parts (drop (sum_to sizes task.layout.n) out₀) w.laid in
       record {
         kept = kept_more w.kept s.beyond e f;
-        known = w.known;
         below = omega arith;
-        fitting = subst (Fitting (tree limit c (grammar_of table)) u.n sizes) (sym m.same) w.fitting;
+        fitting = subst (Fitting (trees_of task) task.layout.n sizes) (sym m.same) w.fitting;
         out-long = m.same ∙ w.out-long;
         parts = parts;
         laid = laid;
-        done = λ A a l. by parts told A a l (ℕ_discrete (get_or ks A 0) k);
+        done = λ A a l. by parts told A a l (ℕ_discrete (get_or task.ks.now A 0) k);
       }
     where
-      by : (parts : List (List ℕ)) → Parts (tree limit c (grammar_of table)) k u.n ks w.parts parts → (A : ℕ) → A < u.n → get_or ks A 0 < k + 1 → Dec (get_or ks A 0 ≡ k)
-          → get_or parts A [] ≡ bytes_of (tree limit c (grammar_of table) A)
+      by : (parts : List (List ℕ)) → Parts (trees_of task) k task.layout.n task.ks.now w.parts parts → (A : ℕ) → A < task.layout.n → get_or task.ks.now A 0 < k + 1 → Dec (get_or task.ks.now A 0 ≡ k)
+          → get_or parts A [] ≡ bytes_of (trees_of task A)
       by parts told A a l (yes q) = told.these A a q
-      by parts told A a l (no q) = told.others A q ∙ w.done A a (below_next (get_or ks A 0) k l q)
+      by parts told A a l (no q) = told.others A q ∙ w.done A a (below_next (get_or task.ks.now A 0) k l q)
 
   -- all are
-  pub writing-end : 11 ≤ k → Wrote limit c table u.n sizes out₀ result₀ scratch₀ out result scratch
+  pub writing-end : 11 ≤ k → Wrote task sizes out₀ result₀ scratch₀ out result scratch
   writing-end h = record {
-    written = laid-all (tree limit c (grammar_of table)) w.laid (λ A a. w.done A a (let t = at-most-ten w.kept.given.on w.known A (omega (arith, w.kept.given.sized.n)) in omega arith));
+    written = laid-all (trees_of task) w.laid (λ A a. w.done A a (let t = at-most-ten w.kept.ready.given.on w.kept.ready.known A (omega (arith, w.kept.ready.given.sized.n)) in omega arith));
     beyond = w.kept.beyond;
   }

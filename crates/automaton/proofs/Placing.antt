@@ -13,8 +13,8 @@ use Rattle.decision_theory.specs.Needed.{each_from}
 use Rattle.decision_theory.specs.Automaton.{State, automata_bytes}
 use Rattle.decision_theory.proofs.Call.{each-length, each_at}
 use Rattle.trees.specs.Answer.{bytes_of}
-use Rattle.automaton.specs.Steps.{sum_to, concat, Laid, Fitting, Parts, KWritten, Writes}
-use Rattle.automaton.proofs.Counting.{sum_more, sum-upto, sized-bytes}
+use Rattle.automaton.specs.Steps.{SizeIs, sum_to, concat, Laid, Fitting, Parts, KWritten, Writes}
+use Rattle.automaton.proofs.Counting.{sum_more, sum-upto}
 
 -- ---- one part
 
@@ -134,8 +134,8 @@ module _ {T : ℕ → List State} {n k a : ℕ} {ks sizes out₀ out : List ℕ}
 
   module _ (fitting : Fitting T n sizes (length out₀)) (h : a < n) where
     -- the tree is small, and its size is the number of its bytes
-    part-size : (length (T a) ≤ 2048) × (get_or sizes a 0 ≡ length (bytes_of (T a)))
-    part-size = sized-bytes (fitting.sized.each a h) (fitting.small a h)
+    part-size : SizeIs (T a) (get_or sizes a 0)
+    part-size = fitting.sized.each a h
 
     -- its place is within the bytes
     pub place_inside : sum_to sizes a ≤ length out
@@ -143,7 +143,7 @@ module _ {T : ℕ → List State} {n k a : ℕ} {ks sizes out₀ out : List ℕ}
 
     -- and its bytes fit there
     fits-there : sum_to sizes a + length (bytes_of (T a)) ≤ length out
-    fits-there = let f = fitting.fits in let s = w.same in let o = sum-upto sizes (a + 1) n (omega arith) in let m = sum_more sizes a in let e = part-size.1 in omega arith
+    fits-there = let f = fitting.fits in let s = w.same in let o = sum-upto sizes (a + 1) n (omega arith) in let m = sum_more sizes a in let e = part-size.is in omega arith
 
     -- its bytes become its part
     pub writes_more : (e : get_or ks a 0 ≡ k) {at : ℕ} {out' : List ℕ} → at ≡ sum_to sizes a → Writes (T a) at out out' → length out' ≡ length out → KWritten T n k (a + 1) ks sizes out₀ out'
@@ -153,12 +153,12 @@ module _ {T : ℕ → List State} {n k a : ℕ} {ks sizes out₀ out : List ℕ}
     }
       where
         now-is : out' ≡ take (sum_to sizes a) out ++ bytes_of (T a) ++ drop (sum_to sizes a + length (bytes_of (T a))) out
-        now-is = (rw place at t).done part-size.0 fits-there
+        now-is = (rw place at t).done part-size.few fits-there
 
         laid : (p : List (List ℕ)) (rest : List ℕ) → Laid n sizes p rest out → Laid n sizes (set p a (bytes_of (T a))) rest out'
         laid p rest m =
             let place_of : before p a ≡ sum_to sizes a = before-is p sizes a (let x = m.many in omega arith) (λ B b. m.each B (let x = m.many in omega arith)) in
-            let long : length (get_or p a []) ≡ length (bytes_of (T a)) = m.each a h ∙ part-size.1 in
+            let long : length (get_or p a []) ≡ length (bytes_of (T a)) = m.each a h ∙ part-size.is in
             record {
               is = now-is
                   ∙ ap₂ (λ (q : ℕ) (s : ℕ). take q out ++ bytes_of (T a) ++ drop (q + s) out) (sym place_of) (sym long)
@@ -169,7 +169,7 @@ module _ {T : ℕ → List State} {n k a : ℕ} {ks sizes out₀ out : List ℕ}
             }
           where
             by : (A : ℕ) → A < n → (x : Bool) → eqb A a ≡ x → length (get_or (set p a (bytes_of (T a))) A []) ≡ get_or sizes A 0
-            by A b true q = let z = eqb-true A a q in rw z (ap length (get_or-set_same p a (bytes_of (T a)) [] (let x = m.many in omega arith)) ∙ sym part-size.1)
+            by A b true q = let z = eqb-true A a q in rw z (ap length (get_or-set_same p a (bytes_of (T a)) [] (let x = m.many in omega arith)) ∙ sym part-size.is)
             by A b false q = ap length (get_or-set_other p a A (bytes_of (T a)) [] (eqb-false A a q)) ∙ m.each A b
 
         tell : {rest : List ℕ} (p parts : List (List ℕ)) → Laid n sizes p rest out → Parts T k a ks parts p → Parts T k (a + 1) ks parts (set p a (bytes_of (T a)))

@@ -1,13 +1,24 @@
 -- The call: its answer as a record of numbers, the bytes that it writes, and what then stands in the two lent buffers, for every input. Assumes nothing.
-use Rattle.std.specs.Prelude.{ℕ, ◌≡◌, List, ◌++◌, length, drop}
+use Rattle.std.specs.Prelude.{ℕ, ◌≡◌, List, ◌++◌, length, drop, Result, Ok, Err}
 use Rattle.k_tuples.specs.Work.{Answer, got, refused}
+use Rattle.refusals.specs.declared.Refusal.{Refusal}
+use Rattle.refusals.specs.Numbers.{number}
 use Rattle.engine.specs.Call.{result_needed, scratch_needed}
 use Rattle.decision_theory.specs.Needed.{needed_ks}
 use Rattle.decision_theory.specs.Automaton.{automata}
 use Rattle.decision.specs.Call.{words_after}
-use Rattle.automaton.specs.declared.answer.Automata.{Automata}
 
--- The record: a refusal and 0 bytes, or 0 and how many bytes were written.
+-- What the call tells, in numbers: a refusal, 0 where there is none, and how many bytes were written.
+pub record Automata : Type 0 where
+  pub refusal : ℕ
+  pub bytes : ℕ
+
+-- What is returned, as that record.
+abbrev pub recorded : Result ℕ Refusal → Automata
+recorded (Ok n) = record { refusal = 0; bytes = n }
+recorded (Err e) = record { refusal = number e; bytes = 0 }
+
+-- The record of an answer on paper: a refusal and 0 bytes, or 0 and how many bytes were written.
 unfoldable pub record_of : Answer (List ℕ) → Automata
 record_of (refused r) = record { refusal = r; bytes = 0 }
 record_of (got bs) = record { refusal = 0; bytes = length bs }

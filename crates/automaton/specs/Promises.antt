@@ -5,8 +5,7 @@ use Rattle.engine.specs.Call.{result_needed, scratch_needed, wiped}
 use Rattle.decision_theory.specs.Needed.{Decided, decisions}
 use Rattle.decision_theory.specs.Automaton.{automaton, automata_bytes, AllAre, LowestRefused, AllSmall, AutomataAnswered}
 use Rattle.decision_theory.specs.Promises.{RightAutomata}
-use Rattle.automaton.specs.declared.answer.Automata.{Automata}
-use Rattle.automaton.specs.Call.{record_of, bytes_after, Promised}
+use Rattle.automaton.specs.Call.{Automata, record_of, bytes_after, Promised}
 
 -- Two outcomes of one input are the same, in both numbers, every lent byte and every lent word.
 abbrev pub AutomataOne : Type 0

@@ -3,172 +3,109 @@
 #![tactic(auto)]
 
 ghost use Rattle.std.specs.Prelude.{◌≤◌, length};
-ghost use Rattle.decision.specs.Steps.{Long, Given, grammar_of};
-ghost use Rattle.decision.specs.Onward.{Known};
-ghost use Rattle.automaton.specs.Call.{Promised};
-ghost use Rattle.automaton.specs.Steps.{tree, Planned, AllStand, KStands, KMeasured, Measured, Fitting, KWritten, Wrote, Done};
+ghost use Rattle.decision.specs.Steps.{Long};
+ghost use Rattle.automaton.specs.Call.{recorded, Promised};
+ghost use Rattle.automaton.specs.Steps.{trees_of, Ready, Planned, AllStand, KStands, SizesPut, Measured, Fitting, KWritten, Wrote, Made, Done};
 
-use crate::answer::Automata;
-use crate::sizes::{place_of, told};
+use crate::sizes::{place_of, total};
 use crate::strings::{size_of_tree, write_tree};
-use decision::joined::{first_refusal, join_k, plan_of, wipe_both};
-use decision::{Layout, needed_k};
+use crate::task::Task;
+use decision::joined::{all_ks, join_k, plan_of, wipe_both};
+use decision::needed_k;
+use refusals::Refusal;
 
-pub mod answer;
 mod sizes;
 mod strings;
+mod task;
 
 // Makes the joined sets of k stand in the result; where k is 0 there is nothing to make.
-fn stand_at(
-    k: u64,
-    limit: u64,
-    c: u64,
-    table: &[u8],
-    u: Layout,
-    links: &[usize; 1152],
-    ks: &[u64; 128],
-    res: &mut [u64],
-    scratch: &mut [u64],
-)
-    requires { (Given limit c table.now u links.now (length res.old) (length scratch.old) × (k ≤ 10)) × Known limit c (grammar_of table.now) ks.now }
-    ensures { KStands limit c table.now u k ks.now res.old scratch.old res.new scratch.new }
+fn stand_at(k: u64, t: &Task, res: &mut [u64], scratch: &mut [u64])
+    requires { Ready t.now (length res.old) (length scratch.old) × (k ≤ 10) }
+    ensures { KStands t.now k res.old scratch.old res.new scratch.new }
 {
     if k == 0 {
         return;
     }
-    join_k(k, limit, c, table, u, links, ks, res, scratch);
+    join_k(
+        k, t.limit, t.c, t.table, t.layout, t.links, t.ks, res, scratch,
+    );
 }
 
-// The sizes of the trees whose k this is.
-fn measure_k(
-    k: u64,
-    limit: u64,
-    c: u64,
-    table: &[u8],
-    u: Layout,
-    links: &[usize; 1152],
-    ks: &[u64; 128],
-    res: &[u64],
-    sizes: &mut [usize; 128],
-)
-    requires { (Planned limit c table.now u links.now × AllStand limit c table.now u k ks.now res.now) × Long sizes.old }
-    ensures { KMeasured (tree limit c (grammar_of table.now)) k u.n ks.now sizes.old sizes.new }
+// The sizes of the trees whose k this is, or that one of them has too many states.
+fn measure_k(k: u64, t: &Task, res: &[u64], sizes: &mut [usize; 128]) -> Result<(), Refusal>
+    requires { (Planned t.now × AllStand t.now k res.now) × Long sizes.old }
+    ensures { SizesPut (trees_of t.now) k t.now.layout.n t.now.ks.now sizes.old sizes.new result }
 {
-    let n = u.n;
-    let mut a = 0;
-    while a < n {
-        if ks[a] == k {
-            let size = size_of_tree(limit, c, table, u, links, res, k, a);
+    for a in 0..t.layout.n {
+        if t.ks[a] == k {
+            let size = size_of_tree(t, res, k, a)?;
             sizes[a] = size;
-            a += 1;
-        } else {
-            a += 1;
         }
     }
+    Ok(())
 }
 
-// The sizes of all trees, k by k.
-fn measure_all(
-    limit: u64,
-    c: u64,
-    table: &[u8],
-    u: Layout,
-    links: &[usize; 1152],
-    ks: &[u64; 128],
-    res: &mut [u64],
-    scratch: &mut [u64],
-) -> [usize; 128]
-    requires { Given limit c table.now u links.now (length res.old) (length scratch.old) × Known limit c (grammar_of table.now) ks.now }
-    ensures { Measured limit c table.now u.n res.old scratch.old result res.new scratch.new }
+// The sizes of all trees, k by k, or that one of them has too many states.
+fn measure_all(t: &Task, res: &mut [u64], scratch: &mut [u64]) -> Result<[usize; 128], Refusal>
+    requires { Ready t.now (length res.old) (length scratch.old) }
+    ensures { Measured t.now res.old scratch.old result res.new scratch.new }
 {
     let mut sizes = [0usize; 128];
-    let mut k: u64 = 0;
-    while k < 11 {
-        stand_at(k, limit, c, table, u, links, ks, res, scratch);
-        measure_k(k, limit, c, table, u, links, ks, res, &mut sizes);
-        k += 1;
+    for k in 0..11 {
+        stand_at(k, t, res, scratch);
+        measure_k(k, t, res, &mut sizes)?;
     }
-    sizes
+    Ok(sizes)
 }
 
 // Writes the trees whose k this is, each at its place.
-fn write_k(
-    k: u64,
-    limit: u64,
-    c: u64,
-    table: &[u8],
-    u: Layout,
-    links: &[usize; 1152],
-    ks: &[u64; 128],
-    res: &[u64],
-    sizes: &[usize; 128],
-    out: &mut [u8],
-)
-    requires { (Planned limit c table.now u links.now × AllStand limit c table.now u k ks.now res.now) × Fitting (tree limit c (grammar_of table.now)) u.n sizes.now (length out.old) }
-    ensures { KWritten (tree limit c (grammar_of table.now)) u.n k u.n ks.now sizes.now out.old out.new }
+fn write_k(k: u64, t: &Task, res: &[u64], sizes: &[usize; 128], out: &mut [u8])
+    requires { (Planned t.now × AllStand t.now k res.now) × Fitting (trees_of t.now) t.now.layout.n sizes.now (length out.old) }
+    ensures { KWritten (trees_of t.now) t.now.layout.n k t.now.layout.n t.now.ks.now sizes.now out.old out.new }
 {
-    let n = u.n;
     let room = out.len();
-    let mut a = 0;
-    while a < n {
-        if ks[a] == k {
+    for a in 0..t.layout.n {
+        if t.ks[a] == k {
             let at = place_of(sizes, a, room);
-            write_tree(limit, c, table, u, links, res, k, a, out, at);
-            a += 1;
-        } else {
-            a += 1;
+            write_tree(t, res, k, a, out, at);
         }
     }
 }
 
 // Writes all trees, k by k.
-fn write_all(
-    limit: u64,
-    c: u64,
-    table: &[u8],
-    u: Layout,
-    links: &[usize; 1152],
-    ks: &[u64; 128],
-    res: &mut [u64],
-    scratch: &mut [u64],
-    sizes: &[usize; 128],
-    out: &mut [u8],
-)
-    requires { (Given limit c table.now u links.now (length res.old) (length scratch.old) × Known limit c (grammar_of table.now) ks.now) × Fitting (tree limit c (grammar_of table.now)) u.n sizes.now (length out.old) }
-    ensures { Wrote limit c table.now u.n sizes.now out.old res.old scratch.old out.new res.new scratch.new }
+fn write_all(t: &Task, res: &mut [u64], scratch: &mut [u64], sizes: &[usize; 128], out: &mut [u8])
+    requires { Ready t.now (length res.old) (length scratch.old) × Fitting (trees_of t.now) t.now.layout.n sizes.now (length out.old) }
+    ensures { Wrote t.now sizes.now out.old res.old scratch.old out.new res.new scratch.new }
 {
-    let mut k: u64 = 0;
-    while k < 11 {
-        stand_at(k, limit, c, table, u, links, ks, res, scratch);
-        write_k(k, limit, c, table, u, links, ks, res, sizes, out);
-        k += 1;
+    for k in 0..11 {
+        stand_at(k, t, res, scratch);
+        write_k(k, t, res, sizes, out);
     }
 }
 
-// The automata of a table all of whose nonterminals are decided.
+// The automata of a table all of whose nonterminals are decided: how many bytes they take, which are written, or why none is.
+fn made(t: &Task, out: &mut [u8], res: &mut [u64], scratch: &mut [u64]) -> Result<usize, Refusal>
+    requires { Ready t.now (length res.old) (length scratch.old) }
+    ensures { Made t.now out.old res.old scratch.old result out.new res.new scratch.new }
+{
+    let sizes = measure_all(t, res, scratch)?;
+    let bytes = total(&sizes, t.layout.n, out.len())?;
+    write_all(t, res, scratch, &sizes, out);
+    Ok(bytes)
+}
+
+// The same, and both buffers are wiped, whatever the answer.
 fn on_trees(
-    limit: u64,
-    c: u64,
-    table: &[u8],
-    u: Layout,
-    links: &[usize; 1152],
-    ks: &[u64; 128],
+    t: &Task,
     out: &mut [u8],
     res: &mut [u64],
     scratch: &mut [u64],
-) -> Automata
-    requires { Given limit c table.now u links.now (length res.old) (length scratch.old) × Known limit c (grammar_of table.now) ks.now }
-    ensures { Done limit c table.now u.n out.old res.old scratch.old result out.new res.new scratch.new }
+) -> Result<usize, Refusal>
+    requires { Ready t.now (length res.old) (length scratch.old) }
+    ensures { Done t.now out.old res.old scratch.old result out.new res.new scratch.new }
 {
-    let sizes = measure_all(limit, c, table, u, links, ks, res, scratch);
-    let room = out.len();
-    let answer = told(&sizes, u.n, room);
-    if answer.refusal != 0 {
-        wipe_both(limit, c, table, u, links, res, scratch);
-        return answer;
-    }
-    write_all(limit, c, table, u, links, ks, res, scratch, &sizes, out);
-    wipe_both(limit, c, table, u, links, res, scratch);
+    let answer = made(t, out, res, scratch);
+    wipe_both(t.limit, t.c, t.table, t.layout, t.links, res, scratch);
     answer
 }
 
@@ -180,17 +117,19 @@ pub fn automata(
     out: &mut [u8],
     res: &mut [u64],
     scratch: &mut [u64],
-) -> Automata
-    ensures { Promised limit c table.now out.old res.old scratch.old result out.new res.new scratch.new }
+) -> Result<usize, Refusal>
+    ensures { Promised limit c table.now out.old res.old scratch.old (recorded result) out.new res.new scratch.new }
 {
-    let needed = needed_k(limit, c, table, res, scratch);
-    let refusals = needed.refusals;
-    let refusal = first_refusal(needed.refusal, &refusals);
-    if refusal != 0 {
-        return Automata { refusal, bytes: 0 };
-    }
-    let ks = needed.ks;
+    let needed = needed_k(limit, c, table, res, scratch)?;
+    let ks = all_ks(&needed.answers)?;
     let plan = plan_of(limit, c, table);
-    let links = plan.links;
-    on_trees(limit, c, table, plan.layout, &links, &ks, out, res, scratch)
+    let t = Task {
+        limit,
+        c,
+        table,
+        layout: plan.layout,
+        links: &plan.links,
+        ks: &ks,
+    };
+    on_trees(&t, out, res, scratch)
 }

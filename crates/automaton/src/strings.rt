@@ -3,17 +3,19 @@
 ghost use Rattle.std.specs.Prelude.{◌≡◌, ◌+◌, ◌*◌, ◌≤◌, ◌<◌, length};
 ghost use Rattle.k_tuples.specs.Blocks.{part_at};
 ghost use Rattle.trees.specs.Collected.{Collect, Collected};
-ghost use Rattle.decision.specs.Steps.{grammar_of};
-ghost use Rattle.automaton.specs.Steps.{Planned, Stands, strings, tree, Gathered, SizeIs, Writes};
+ghost use Rattle.trees.specs.Answer.{SizeTold};
+ghost use Rattle.automaton.specs.Steps.{Planned, Stands, strings_of, trees_of, Gathered, Writes};
 
+use crate::task::Task;
 use decision::Layout;
 use k_tuple::Terminals;
+use refusals::Refusal;
 use trees::collect::add_set;
-use trees::list::{Size, add};
+use trees::list::add;
 use trees::{measured, written};
 
 // Lists the strings of production i, behind m that there are.
-fn list_set(list: &mut [u64], m: usize, u: Layout, res: &[u64], i: usize) -> Size
+fn list_set(list: &mut [u64], m: usize, u: Layout, res: &[u64], i: usize) -> Result<usize, Refusal>
     requires { Collect list.old m (part_at u.b (u.n + i) res.now) i × (((u.n + i) * u.b + u.b ≤ length res.now) × (u.n + i ≤ 640)) }
     ensures { Collected m i (part_at u.b (u.n + i) res.now) list.old list.new result }
 {
@@ -24,126 +26,62 @@ fn list_set(list: &mut [u64], m: usize, u: Layout, res: &[u64], i: usize) -> Siz
 }
 
 // Lists the strings of a's productions, which are linked, where its joined sets stand in the result.
-fn list_own(
-    list: &mut [u64],
-    limit: u64,
-    c: u64,
-    table: &[u8],
-    u: Layout,
-    links: &[usize; 1152],
-    res: &[u64],
-    k: u64,
-    a: usize,
-) -> Size
-    requires { (Planned limit c table.now u links.now × Stands limit c table.now u k a res.now) × (((1 ≤ k) × (a < u.n)) × (6144 ≤ length list.old)) }
-    ensures { Gathered (strings limit c (grammar_of table.now) a) list.new result }
+fn list_own(list: &mut [u64], t: &Task, res: &[u64], k: u64, a: usize) -> Result<usize, Refusal>
+    requires { (Planned t.now × Stands t.now k a res.now) × (((1 ≤ k) × (a < t.now.layout.n)) × (6144 ≤ length list.old)) }
+    ensures { Gathered (strings_of t.now a) list.new result }
 {
-    let p = u.p;
-    let first = 1024 + a;
-    let mut i = links[first];
+    let p = t.layout.p;
+    let mut i = t.links.first[a];
     let mut m: usize = 0;
     while i < p {
-        let answer = list_set(list, m, u, res, i);
-        let Size::Holds(more) = answer else {
-            return answer;
-        };
-        m = more;
-        let next = 512 + i;
-        i = links[next];
+        m = list_set(list, m, t.layout, res, i)?;
+        i = t.links.next[i];
     }
-    Size::Holds(m)
+    Ok(m)
 }
 
 // Lists the empty string, for a's one production: nothing ahead is looked at.
-fn list_one(
-    list: &mut [u64],
-    limit: u64,
-    c: u64,
-    table: &[u8],
-    u: Layout,
-    links: &[usize; 1152],
-    res: &[u64],
-    a: usize,
-) -> Size
-    requires { (Planned limit c table.now u links.now × Stands limit c table.now u 0 a res.now) × ((a < u.n) × (6144 ≤ length list.old)) }
-    ensures { Gathered (strings limit c (grammar_of table.now) a) list.new result }
+fn list_one(list: &mut [u64], t: &Task, res: &[u64], a: usize) -> Result<usize, Refusal>
+    requires { (Planned t.now × Stands t.now 0 a res.now) × ((a < t.now.layout.n) × (6144 ≤ length list.old)) }
+    ensures { Gathered (strings_of t.now a) list.new result }
 {
-    let first = 1024 + a;
-    let i = links[first] as u64;
-    let t = Terminals {
+    let i = t.links.first[a] as u64;
+    let empty = Terminals {
         lo: 0,
         hi: 0x1000_0000_0000_0000,
     };
-    add(list, 0, t, i)
+    add(list, 0, empty, i)
 }
 
 // Lists a's strings.
-fn list_for(
-    list: &mut [u64],
-    limit: u64,
-    c: u64,
-    table: &[u8],
-    u: Layout,
-    links: &[usize; 1152],
-    res: &[u64],
-    k: u64,
-    a: usize,
-) -> Size
-    requires { (Planned limit c table.now u links.now × Stands limit c table.now u k a res.now) × ((a < u.n) × (6144 ≤ length list.old)) }
-    ensures { Gathered (strings limit c (grammar_of table.now) a) list.new result }
+fn list_for(list: &mut [u64], t: &Task, res: &[u64], k: u64, a: usize) -> Result<usize, Refusal>
+    requires { (Planned t.now × Stands t.now k a res.now) × ((a < t.now.layout.n) × (6144 ≤ length list.old)) }
+    ensures { Gathered (strings_of t.now a) list.new result }
 {
     if k == 0 {
-        return list_one(list, limit, c, table, u, links, res, a);
+        return list_one(list, t, res, a);
     }
-    list_own(list, limit, c, table, u, links, res, k, a)
+    list_own(list, t, res, k, a)
 }
 
-// How many bytes a's tree takes; 0 where it has more than 2,048 states.
-pub fn size_of_tree(
-    limit: u64,
-    c: u64,
-    table: &[u8],
-    u: Layout,
-    links: &[usize; 1152],
-    res: &[u64],
-    k: u64,
-    a: usize,
-) -> usize
-    requires { (Planned limit c table.now u links.now × Stands limit c table.now u k a res.now) × (a < u.n) }
-    ensures { SizeIs (tree limit c (grammar_of table.now) a) result }
+// How many bytes a's tree takes, or that it has more than 2,048 states.
+pub fn size_of_tree(t: &Task, res: &[u64], k: u64, a: usize) -> Result<usize, Refusal>
+    requires { (Planned t.now × Stands t.now k a res.now) × (a < t.now.layout.n) }
+    ensures { SizeTold (trees_of t.now a) result }
 {
     let mut list = [0u64; 6144];
-    let listed = list_for(&mut list, limit, c, table, u, links, res, k, a);
-    let Size::Holds(m) = listed else {
-        return 0;
-    };
-    let answer = measured(&list, m);
-    let Size::Holds(size) = answer else {
-        return 0;
-    };
-    size
+    let m = list_for(&mut list, t, res, k, a)?;
+    measured(&list, m)
 }
 
-// Writes a's tree at a place.
-pub fn write_tree(
-    limit: u64,
-    c: u64,
-    table: &[u8],
-    u: Layout,
-    links: &[usize; 1152],
-    res: &[u64],
-    k: u64,
-    a: usize,
-    out: &mut [u8],
-    at: usize,
-)
-    requires { (Planned limit c table.now u links.now × Stands limit c table.now u k a res.now) × ((a < u.n) × (at ≤ length out.old)) }
-    ensures { Writes (tree limit c (grammar_of table.now) a) at out.old out.new }
+// Writes a's tree at a place; nothing where it has too many states or too little room, which `size_of_tree` told before.
+pub fn write_tree(t: &Task, res: &[u64], k: u64, a: usize, out: &mut [u8], at: usize)
+    requires { (Planned t.now × Stands t.now k a res.now) × ((a < t.now.layout.n) × (at ≤ length out.old)) }
+    ensures { Writes (trees_of t.now a) at out.old out.new }
 {
     let mut list = [0u64; 6144];
-    let listed = list_for(&mut list, limit, c, table, u, links, res, k, a);
-    let Size::Holds(m) = listed else {
+    let Ok(m) = list_for(&mut list, t, res, k, a) else {
         return;
     };
-    written(&list, m, out, at);
+    let _told = written(&list, m, out, at);
 }

@@ -1,13 +1,16 @@
 // The automata of a table as a picture for Graphviz: the limit, c and the table from standard input, a box for each nonterminal.
 #![tactic(auto)]
 
+use automaton_lines::{Picture, put_input};
 use std::io;
+use std::io::Write;
+use streams::{Out, read_full};
 
 // It reads no more than 16,384 bytes, which no accepted input passes.
 fn main(rt: HostRuntime) -> io::Result<()> {
     let mut input = [0u8; 16384];
-    let n = streams::read_full(&mut rt.reader(), &mut input)?;
-    let mut out = [0u8; 4096];
-    let at = automaton_lines::put_input(&rt, &mut out, 0, true, &input[..n])?;
-    lines::flush(&rt, &out, at)
+    let n = read_full(&mut rt.reader(), &mut input)?;
+    let mut out = Out::new(&rt);
+    put_input(&mut out, &Picture, &input[..n])?;
+    out.flush()
 }

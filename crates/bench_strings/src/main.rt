@@ -6,8 +6,9 @@
 ghost use Rattle.std.specs.Prelude.{◌<◌};
 
 use k_joins::k_concat;
-use k_tuple::{StringAnswer, Terminals};
+use k_tuple::Terminals;
 use k_tuples::union;
+use refusals::Refusal;
 use replay::told;
 use std::io;
 use std::num::wrapping_add_u64;
@@ -24,7 +25,7 @@ fn narrow(x: u64) -> u16
 }
 
 // A string of one to three slots, a different one for most numbers.
-fn string(i: u64) -> StringAnswer {
+fn string(i: u64) -> Result<Terminals, Refusal> {
     let s = i % 1000;
     let ts = [
         narrow(5 + s % 240),
@@ -41,13 +42,13 @@ fn string(i: u64) -> StringAnswer {
 }
 
 // A set with a string added.
-fn with(set: [u64; 129], x: StringAnswer) -> [u64; 129] {
-    let StringAnswer::Is(t) = x else {
+fn with(set: [u64; 129], x: Result<Terminals, Refusal>) -> [u64; 129] {
+    let Ok(t) = x else {
         return set;
     };
     let one = [0x0000_0001_0000_0001, t.lo, t.hi];
     let mut sum = [0u64; 129];
-    union(K, &set, &one, &mut sum);
+    let _ = union(K, &set, &one, &mut sum);
     sum
 }
 
@@ -67,8 +68,8 @@ fn mixed(sum: u64, word: u64) -> u64 {
 
 fn digest(words: &[u64]) -> u64 {
     let mut sum = 0;
-    for i in 0..words.len() {
-        sum = mixed(sum, words[i]);
+    for word in words {
+        sum = mixed(sum, *word);
     }
     sum
 }
@@ -76,8 +77,8 @@ fn digest(words: &[u64]) -> u64 {
 fn round(r: u64, members: u64, joined: &mut [u64], sum: &mut [u64]) -> u64 {
     let a = set_of(r, members);
     let b = set_of(wrapping_add_u64(r, 500), members);
-    k_concat(K, &a, &b, joined);
-    union(K, joined, &a, sum);
+    let _ = k_concat(K, &a, &b, joined);
+    let _ = union(K, joined, &a, sum);
     digest(sum)
 }
 
@@ -92,8 +93,10 @@ fn worked(rounds: u64, members: u64, joined: &mut [u64], sum: &mut [u64]) -> u64
 fn run(rt: &impl Print, text: &[u8]) -> io::Result<bool> {
     let end = replay::find(text, 0, b'\n');
     let mut n = [0u64; 4];
-    let column = replay::read_column(&text[0..end], 0, &mut n);
-    if !column.ok || column.count != 3 {
+    let Some(column) = replay::read_column(&text[0..end], 0, &mut n) else {
+        return Ok(false);
+    };
+    if column.count != 3 {
         return Ok(false);
     }
     if 2049 < n[2] {

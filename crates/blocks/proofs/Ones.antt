@@ -10,9 +10,8 @@ use Rattle.k_tuple.specs.Strings.{Str}
 use Rattle.k_tuple.specs.Packed.{packed}
 use Rattle.k_tuples.specs.Sets.{union, unfinished, joins}
 use Rattle.k_tuples.specs.Members.{add_all, pairs_of}
-use Rattle.k_tuples.specs.Words.{number_in, encode, decode, room_of, IsSet, Grew, Numbered, is_full}
+use Rattle.k_tuples.specs.Words.{Growth, number_in, encode, decode, room_of, IsSet, Grew, Numbered, is_full}
 use Rattle.k_tuples.specs.Held.{set_words, Holds, Became}
-use Rattle.k_tuples.specs.declared.set.Grown.{Grown}
 use Rattle.k_tuples.proofs.Held.{holds-number, holds-decode, as-any, any_open, any-decode, any-set, has-fit, numbered, united, joined-into, union-held, joins-held, became-number, kept-became}
 use Rattle.k_tuples.proofs.Filling.{full-grown}
 use Rattle.k_tuples.proofs.Unfinished.{union-done, union-apart, unfinished-few, joins-done, joins-closed}
@@ -25,7 +24,7 @@ is-numbered {k} h = holds-number h ∙ sym (any_open (as-any h) k)
 is-done : {k w u : ℕ} {x : List Str} {xs : List ℕ} → Holds k w x xs → u ≡ number_in xs → u ≡ 0 → unfinished k x ≡ 0
 is-done g told none = sym (holds-number g) ∙ sym told ∙ none
 
-module _ {k w : ℕ} {a x : List Str} {ws xs exit : List ℕ} {r : Grown} (h : Holds k w a ws) (g : Holds k w x xs) where
+module _ {k w : ℕ} {a x : List Str} {ws xs exit : List ℕ} {r : Growth} (h : Holds k w a ws) (g : Holds k w x xs) where
   -- `union_into`, where the other set has nothing unfinished
   pub united-kept : {u : ℕ} → u ≡ number_in xs → u ≡ 0 → Grew ws exit (add_all (decode xs) (decode ws)) r → Became k w a (union a x) (length ws) exit r
   united-kept told none grew =
@@ -52,7 +51,7 @@ module _ {k w : ℕ} {a x : List Str} {ws xs exit : List ℕ} {r : Grown} (h : H
     second-kept told none = added-kept (joins-closed k x y some (is-done second told none))
 
 -- `union_into` of a set that has nothing in common with the first: the numbers are added
-module _ {k w : ℕ} {a x : List Str} {ws xs mid : List ℕ} {g : Grown} (h : Holds k w a ws) (o : Holds k w x xs) (grew : Grew ws mid (add_all (decode xs) (decode ws)) g) (fits : is_full g ≡ false) where
+module _ {k w : ℕ} {a x : List Str} {ws xs mid : List ℕ} {g : Growth} (h : Holds k w a ws) (o : Holds k w x xs) (grew : Grew ws mid (add_all (decode xs) (decode ws)) g) (fits : is_full g ≡ false) where
   fitted : length (union a x) ≤ room_of (length ws)
   fitted = has-fit (united h o grew) fits
 
@@ -89,7 +88,7 @@ module _ {k w : ℕ} {a x : List Str} {ws xs mid : List ℕ} {g : Grown} (h : Ho
         (omega (arith, h.room)) refl
 
 -- where there was no room
-pub united-full : {k w : ℕ} {a x : List Str} {ws xs mid : List ℕ} {g : Grown} → Holds k w a ws → Holds k w x xs → Grew ws mid (add_all (decode xs) (decode ws)) g → is_full g ≡ true
+pub united-full : {k w : ℕ} {a x : List Str} {ws xs mid : List ℕ} {g : Growth} → Holds k w a ws → Holds k w x xs → Grew ws mid (add_all (decode xs) (decode ws)) g → is_full g ≡ true
     → Became k w a (union a x) (length ws) mid g
 united-full {k} {w} {a} {x} {ws} h o grew e =
     let b = united h o grew in

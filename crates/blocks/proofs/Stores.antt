@@ -1,5 +1,5 @@
 -- Words that hold sets: one change after another. Assumes nothing.
-use mathlib.Core.Path.{◌≡◌, refl, sym, ap, ◌∙◌, subst}
+use mathlib.Core.Path.{◌≡◌, refl, sym, ap, ap₂, ◌∙◌, subst}
 use mathlib.Core.Bool.{false, ◌&&◌}
 use mathlib.Core.Logic.{inl, inr, ⊎_elim}
 use mathlib.Core.List.Memᴰ
@@ -11,21 +11,33 @@ use native.Mathlib.Numerals.{add-one}
 use native.Mathlib.Omega.{arith}
 use borrow.Author.Tests.{ltb-false}
 use lib.ListN.{length, take, drop, set, replicate, length-set, length-replicate}
-use lib.Seq.{drop-cons}
+use lib.Seq.{drop-cons, get_or-set_same, set-set}
 use Rattle.k_tuple.specs.Strings.{Str}
 use Rattle.k_tuple.specs.Packed.{packed}
 use Rattle.k_tuple.specs.declared.Terminals.{Terminals}
 use Rattle.k_tuples.specs.Sets.{Sorted, same_set, union, joins, join_sets}
 use Rattle.k_tuples.specs.States.{State, set_of, same_sets}
-use Rattle.k_tuples.specs.Words.{room_of, grown, is_full}
+use Rattle.k_tuples.specs.Words.{Growth, room_of, grown, is_full}
 use Rattle.k_tuples.specs.Held.{Fits, Holds, Became}
 use Rattle.k_tuples.specs.Blocks.{Stored, sets_in, IsStored, part_at, put_at}
-use Rattle.k_tuples.specs.declared.set.Grown.{Grown}
 use Rattle.k_tuples.proofs.Sets.{mem-union, union-sorted, union-only}
 use Rattle.k_tuples.proofs.Held.{holds-words, set-length}
 use Rattle.k_tuples.proofs.Filling.{full-grown}
-use Rattle.k_tuples.proofs.Blocks.{stored-length, stored-rest, stored-sets, length-sets, is-stored, zeros-stored, in-sets, part_length, stepped, as_it_was}
+use Rattle.k_tuples.proofs.Blocks.{stored-length, stored-rest, stored-sets, length-sets, is-stored, zeros-stored, in-sets, part_room, part_length, part-holds, stepped, as_it_was}
 use Rattle.blocks.specs.Stores.{Only, Turned, Filled}
+
+-- ---- one of the sets
+
+module _ {k w b m i : ℕ} {ws : List ℕ} (h : IsStored k w b m ws) (l : i < m) where
+  -- its block lies within the words
+  pub block_room : i * b + b ≤ length ws
+  block_room = part_room h.stored i (in-sets h l)
+
+  pub block_length : length (part_at b i ws) ≡ b
+  block_length = part_length h.stored i (in-sets h l)
+
+  pub block-holds : Holds k w (set_of (sets_in b m ws) i) (part_at b i ws)
+  block-holds = part-holds h.stored i (in-sets h l)
 
 -- ---- what words have come to hold
 
@@ -67,14 +79,14 @@ pub set-turned : {k w b m : ℕ} {ws ws' : List ℕ} (i : ℕ) (new : List Str) 
 set-turned {b = b} {m = m} {ws = ws} i new h = record { count = length-set (sets_in b m ws) i new ∙ length-sets b m ws; held = h }
 
 -- a set that was filled and had room
-pub fits-room : {r : Grown} (room old new : ℕ) → is_full r ≡ false → r ≡ grown room old new → new ≤ room
+pub fits-room : {r : Growth} (room old new : ℕ) → is_full r ≡ false → r ≡ grown room old new → new ≤ room
 fits-room room old new e a = ltb-false _ _ (sym (full-grown room old new) ∙ ap is_full (sym a) ∙ e)
 
-pub filled-turned : {k w b m i old : ℕ} {new : List Str} {r : Grown} {ws ws' : List ℕ} → Filled k w b m i old new r ws ws' → is_full r ≡ false → Turned k w b m (set (sets_in b m ws) i new) ws ws'
+pub filled-turned : {k w b m i old : ℕ} {new : List Str} {r : Growth} {ws ws' : List ℕ} → Filled k w b m i old new r ws ws' → is_full r ≡ false → Turned k w b m (set (sets_in b m ws) i new) ws ws'
 filled-turned {b = b} {i = i} {old = old} {new = new} f e = set-turned i new (f.step.stored (fits-room (room_of b) old (length new) e f.answer))
 
 -- a block that went to a call has come back filled, whatever set it had or was said to have
-pub block-filled : {k w b m : ℕ} {old new : List Str} {r : Grown} {ws p : List ℕ} → IsStored k w b m ws → (i : ℕ) → i < m → Became k w old new (length (part_at b i ws)) p r
+pub block-filled : {k w b m : ℕ} {old new : List Str} {r : Growth} {ws p : List ℕ} → IsStored k w b m ws → (i : ℕ) → i < m → Became k w old new (length (part_at b i ws)) p r
     → length p ≡ length (part_at b i ws) → Filled k w b m i (length old) new r ws (put_at b i p ws)
 block-filled {k} {w} {b} {m} {old} {new} {r} {ws} {p} h i l g e =
     let here = set_of (sets_in b m ws) i in
@@ -125,3 +137,27 @@ add-joins k c a b s =
       λ m. ⊎_elim inl (λ i. inr ((mem-union z [] (joins k a b)).1 (inr i))) ((mem-union z c (joins k a b)).0 m),
       λ m. (mem-union z c (joins k a b)).1 (⊎_elim inl (λ i. inr (⊎_elim (λ n. absurd (not-nil n)) (λ n. n) ((mem-union z [] (joins k a b)).0 i))) m),
     ))
+
+-- in place of what a block held, which was emptied before
+module _ {k w b m i : ℕ} {ws mid : List ℕ} (x y : List Str) (h : IsStored k w b m ws) (l : i < m) (t : Turned k w b m (set (sets_in b m ws) i []) ws mid) where
+  emptied : set_of (sets_in b m mid) i ≡ []
+  emptied = ap (λ (G : State). set_of G i) (turned-sets t) ∙ get_or-set_same (sets_in b m ws) i [] [] (in-sets h l)
+
+  alone : union (set_of (sets_in b m mid) i) (join_sets k x y) ≡ join_sets k x y
+  unfolding join_sets
+  alone = ap (λ (a : List Str). union a (join_sets k x y)) emptied ∙ sym (add-joins k [] x y tt)
+
+  pub join_alone : {r : Growth} {exit : List ℕ} → Filled k w b m i (length (set_of (sets_in b m mid) i)) (union (set_of (sets_in b m mid) i) (join_sets k x y)) r mid exit → Filled k w b m i 0 (join_sets k x y) r ws exit
+  join_alone {exit = exit} f =
+      let n = join_sets k x y in
+      let sets : set (sets_in b m mid) i (union (set_of (sets_in b m mid) i) n) ≡ set (sets_in b m ws) i n =
+      ap₂ (λ (G : State) (a : List Str). set G i a) (turned-sets t) alone ∙ set-set (sets_in b m ws) i [] n in
+      record {
+        answer = f.answer ∙ ap₂ (λ (a c : List Str). grown (room_of b) (length a) (length c)) emptied alone;
+        step = record {
+          stored = λ room.
+              subst (λ (G : State). Stored k w b G (drop (m * b) ws) exit) sets
+              (subst (λ (v : List ℕ). Stored k w b (set (sets_in b m mid) i (union (set_of (sets_in b m mid) i) n)) v exit) (turned-beyond t) (f.step.stored (rw alone room)));
+          beyond = f.step.beyond ∙ turned-beyond t;
+        };
+      }

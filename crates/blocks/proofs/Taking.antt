@@ -1,6 +1,7 @@
 -- The first sets of words become those of others, one after the other, each with a mark whether it was that before. Assumes nothing.
 use mathlib.Core.Path.{◌≡◌, refl, sym, ap, ◌∙◌, subst}
 use mathlib.Core.Bool.{Bool, true, false, ◌&&◌}
+use Rattle.std.proofs.Math.Bool.{and_assoc}
 use mathlib.Core.List.{List, [], ◌++◌}
 use Prim.Native.Nat.{ℕ, ◌+◌, ◌-◌, ◌≤◌, ◌<◌}
 use native.Mathlib.Nat.{add-zero}
@@ -22,26 +23,20 @@ use Rattle.blocks.proofs.Stores.{as-turned, turned-store, turned-sets, turned_th
 
 module _ {b m l i : ℕ} {r : Bool} {vs ws : List ℕ} (told : (k w : ℕ) → IsStored k w b m ws → IsStored k w b l vs → r ≡ same_set (set_of (sets_in b l vs) i) (set_of (sets_in b m ws) i)) where
   -- it is that already
-  pub taken-same : r ≡ true → TakenBlock b m l i true vs ws ws
+  pub taken-same : r ≡ true → TakenBlock b m l i r vs ws ws
   taken-same e = record {
     step = λ k w f g.
         let F = sets_in b m ws in
         let same : set_of (sets_in b l vs) i ≡ set_of F i = same_set-sound _ _ (subst T (sym e ∙ told k w f g) tt) in
         rw (same, set-get_or F i []) (as-turned f);
-    told = λ k w f g. sym e ∙ told k w f g;
+    told = told;
   }
 
   -- it is copied
-  pub taken-copy : r ≡ false → {ws' : List ℕ} → CopiedBlock b m l i i vs ws ws' → TakenBlock b m l i false vs ws ws'
-  taken-copy e c = record { step = c.step; told = λ k w f g. sym e ∙ told k w f g }
+  pub taken-copy : {ws' : List ℕ} → CopiedBlock b m l i i vs ws ws' → TakenBlock b m l i r vs ws ws'
+  taken-copy c = record { step = c.step; told = told }
 
 -- ---- the first sets
-
-and-swap : (a b c : Bool) → (a && (b && c)) ≡ ((b && a) && c)
-and-swap true true c = refl
-and-swap true false c = refl
-and-swap false true c = refl
-and-swap false false c = refl
 
 and-end : (a b : Bool) → b ≡ true → (a && b) ≡ a
 and-end true b e = e
@@ -97,7 +92,7 @@ module _ (b m l n : ℕ) (vs ws₀ : List ℕ) (marks₀ : List Bool) where
           c.told k w (turned-store (t.step k w f g)) g
           ∙ ap (same_set (set_of There i)) (ap (λ (F : State). set_of F i) (turned-sets (t.step k w f g)) ∙ set-behind i There Here (omega (arith, length-sets b l vs)))
 
-      pub taking-more : {all' : Bool} → all' ≡ (r && all) → Taking (i + 1) all' ws' (set marks i r)
+      pub taking-more : {all' : Bool} → all' ≡ (all && r) → Taking (i + 1) all' ws' (set marks i r)
       taking-more e = record {
         below = omega arith;
         long = length-set marks i r ∙ t.long;
@@ -108,7 +103,7 @@ module _ (b m l n : ℕ) (vs ws₀ : List ℕ) (marks₀ : List Bool) where
         told =
             t.told
             ∙ ap (λ (x : Bool). all && x) (same_next n i There Here h (omega (arith, length-sets b l vs)) (omega (arith, length-sets b m ws₀)) ∙ ap (λ (x : Bool). x && from (i + 1)) (sym (alike f₀ g₀)))
-            ∙ and-swap all r (from (i + 1)) ∙ ap (λ (x : Bool). x && from (i + 1)) (sym e);
+            ∙ sym (and_assoc all r (from (i + 1))) ∙ ap (λ (x : Bool). x && from (i + 1)) (sym e);
         marked = λ k w f g. below_more _ i
             (λ j z. get_or-set_other marks i j r false (λ (q : j ≡ i). omega arith) ∙ t.marked k w f g j z)
             (get_or-set_same marks i r false (omega (arith, t.long)) ∙ alike f g);

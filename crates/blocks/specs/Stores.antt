@@ -6,10 +6,9 @@ use Rattle.k_tuple.specs.Packed.{packed}
 use Rattle.k_tuple.specs.declared.Terminals.{Terminals}
 use Rattle.k_tuples.specs.Sets.{union, join_sets, all_complete, same_set}
 use Rattle.k_tuples.specs.States.{State, set_of, same_sets}
-use Rattle.k_tuples.specs.Words.{room_of, grown}
+use Rattle.k_tuples.specs.Words.{Growth, room_of, grown}
 use Rattle.k_tuples.specs.Held.{set_words, Fits, Holds}
 use Rattle.k_tuples.specs.Blocks.{Stored, sets_in, IsStored, Stepped}
-use Rattle.k_tuples.specs.declared.set.Grown.{Grown}
 
 -- ---- what a call needs
 
@@ -80,26 +79,26 @@ pub record Turned (k w b m : ℕ) (F : State) (ws ws' : List ℕ) : Type 0 where
   pub held : Stored k w b F (drop (m * b) ws) ws'
 
 -- set i of m, which had `old` members, has become `new`, if there is room for it, and r tells
-pub record Filled (k w b m i old : ℕ) (new : List Str) (r : Grown) (ws ws' : List ℕ) : Type 0 where
+pub record Filled (k w b m i old : ℕ) (new : List Str) (r : Growth) (ws ws' : List ℕ) : Type 0 where
   pub answer : r ≡ grown (room_of b) old (length new)
   pub step : Stepped k w b m i new ws ws'
 
 -- set i is the join of two sets
-pub record Joined (k b m i : ℕ) (r : Grown) (xs ys ws ws' : List ℕ) : Type 0 where
+pub record Joined (k b m i : ℕ) (r : Growth) (xs ys ws ws' : List ℕ) : Type 0 where
   pub step : (w : ℕ) (x y : List Str) → IsStored k w b m ws → Holds k w x xs → Holds k w y ys → Filled k w b m i 0 (join_sets k x y) r ws ws'
 
 -- the join of two sets has been added to set i
-pub record JoinAdded (k b m i : ℕ) (r : Grown) (xs ys ws ws' : List ℕ) : Type 0 where
+pub record JoinAdded (k b m i : ℕ) (r : Growth) (xs ys ws ws' : List ℕ) : Type 0 where
   pub step : (w : ℕ) (x y : List Str) → IsStored k w b m ws → Holds k w x xs → Holds k w y ys → let old = set_of (sets_in b m ws) i in
       Filled k w b m i (length old) (union old (join_sets k x y)) r ws ws'
 
 -- a set has been added to set i
-pub record United (k b m i : ℕ) (r : Grown) (xs ws ws' : List ℕ) : Type 0 where
+pub record United (k b m i : ℕ) (r : Growth) (xs ws ws' : List ℕ) : Type 0 where
   pub step : (w : ℕ) (x : List Str) → IsStored k w b m ws → Holds k w x xs → let old = set_of (sets_in b m ws) i in
       Filled k w b m i (length old) (union old x) r ws ws'
 
 -- set `from` of other words, of l sets, has been added to set `to`
-pub record UnitedBlock (k b m l from to : ℕ) (r : Grown) (vs ws ws' : List ℕ) : Type 0 where
+pub record UnitedBlock (k b m l from to : ℕ) (r : Growth) (vs ws ws' : List ℕ) : Type 0 where
   pub step : (w : ℕ) → IsStored k w b m ws → IsStored k w b l vs → let old = set_of (sets_in b m ws) to in
       Filled k w b m to (length old) (union old (set_of (sets_in b l vs) from)) r ws ws'
 

@@ -1,33 +1,28 @@
 // Lent words that are cut into blocks of b words, a set in each: work on one block, and on the first n blocks. Words have m such blocks, or l.
 // Where a set is made its number of unfinished members is that at k.
+// Kept: a part of words that is written, `&mut words[at..end]`, is named where it is lent. No proof is made for a function that gives such a part.
+// Kept: words, b and m side by side. A struct over lent words is no plainer: each call would also have to say that it still holds the same words.
 #![tactic(auto)]
 
-ghost use Rattle.std.specs.Prelude.{◌≤◌, ◌<◌, length};
+ghost use Rattle.std.specs.Prelude.{◌≡◌, ◌+◌, ◌*◌, ◌≤◌, ◌<◌, length};
 ghost use Rattle.k_tuple.specs.Packed.{WellFormed};
+ghost use Rattle.k_tuples.specs.Blocks.{part_at};
 ghost use Rattle.blocks.specs.Stores.{Sets, Both, BothAt, WithOne, WithOneAt, WithTwo, WithString, Raisable, Only, PutSingle, Raised, Joined, JoinAdded, United, UnitedBlock, Copied, CopiedBlock, Emptied, EmptiedFirst, TakenBlock, TakenFirst, AskedComplete};
 
-use crate::one::{join_more, join_over, unite_one};
+use crate::one::{join_more, unite_one};
 use k_tuple::Terminals;
-use k_tuples::set::{Grown, renumber};
+use k_tuples::set::{Grown, clear_set, number, renumber, replace_set, same_set};
+use refusals::Refusal;
 
 pub mod one;
 
-// Makes block out the join of two sets.
-pub fn join_into(
-    words: &mut [u64],
-    xs: &[u64],
-    ys: &[u64],
-    b: usize,
-    m: usize,
-    out: usize,
-    k: u64,
-) -> Grown
-    requires { WithTwo k b m words.old xs.now ys.now × (out < m) }
-    ensures { Joined k b m out result xs.now ys.now words.old words.new }
+// Block i of words that are read.
+pub fn block(words: &[u64], b: usize, i: usize) -> &[u64]
+    requires { i * b + b ≤ length words.now }
+    ensures { result.now ≡ part_at b i words.now }
 {
-    let at = out * b;
-    let end = at + b;
-    join_over(&mut words[at..end], xs, ys, k)
+    let at = i * b;
+    &words[at..at + b]
 }
 
 // Adds the join of two sets to block out.
@@ -39,23 +34,45 @@ pub fn join_add(
     m: usize,
     out: usize,
     k: u64,
-) -> Grown
+) -> Result<Grown, Refusal>
     requires { WithTwo k b m words.old xs.now ys.now × (out < m) }
     ensures { JoinAdded k b m out result xs.now ys.now words.old words.new }
 {
     let at = out * b;
-    let end = at + b;
-    join_more(&mut words[at..end], xs, ys, k)
+    join_more(&mut words[at..at + b], xs, ys, k)
+}
+
+// Makes block out the join of two sets: it is emptied, and the join is added.
+pub fn join_into(
+    words: &mut [u64],
+    xs: &[u64],
+    ys: &[u64],
+    b: usize,
+    m: usize,
+    out: usize,
+    k: u64,
+) -> Result<Grown, Refusal>
+    requires { WithTwo k b m words.old xs.now ys.now × (out < m) }
+    ensures { Joined k b m out result xs.now ys.now words.old words.new }
+{
+    clear_block(words, b, m, out);
+    join_add(words, xs, ys, b, m, out, k)
 }
 
 // Adds a set to block to.
-pub fn unite_into(words: &mut [u64], xs: &[u64], b: usize, m: usize, to: usize, k: u64) -> Grown
+pub fn unite_into(
+    words: &mut [u64],
+    xs: &[u64],
+    b: usize,
+    m: usize,
+    to: usize,
+    k: u64,
+) -> Result<Grown, Refusal>
     requires { WithOneAt k b m words.old xs.now × (to < m) }
     ensures { United k b m to result xs.now words.old words.new }
 {
     let at = to * b;
-    let end = at + b;
-    unite_one(&mut words[at..end], xs, k)
+    unite_one(&mut words[at..at + b], xs, k)
 }
 
 // Adds block from of src to block to.
@@ -68,13 +85,11 @@ pub fn unite_block(
     from: usize,
     to: usize,
     k: u64,
-) -> Grown
+) -> Result<Grown, Refusal>
     requires { BothAt k b m l words.old src.now × ((from < l) × (to < m)) }
     ensures { UnitedBlock k b m l from to result src.now words.old words.new }
 {
-    let at = from * b;
-    let end = at + b;
-    unite_into(words, &src[at..end], b, m, to, k)
+    unite_into(words, block(src, b, from), b, m, to, k)
 }
 
 // Makes block to a copy of a set that it has room for.
@@ -83,8 +98,7 @@ pub fn copy_into(words: &mut [u64], xs: &[u64], b: usize, m: usize, to: usize)
     ensures { Copied b m to xs.now words.old words.new }
 {
     let at = to * b;
-    let end = at + b;
-    k_tuples::set::replace_set(&mut words[at..end], xs);
+    replace_set(&mut words[at..at + b], xs);
 }
 
 // Makes block to a copy of block from of src.
@@ -100,9 +114,7 @@ pub fn copy_block(
     requires { Both b m l words.old src.now × ((from < l) × (to < m)) }
     ensures { CopiedBlock b m l from to src.now words.old words.new }
 {
-    let at = from * b;
-    let end = at + b;
-    copy_into(words, &src[at..end], b, m, to);
+    copy_into(words, block(src, b, from), b, m, to);
 }
 
 // The set of one string, in three words.
@@ -127,12 +139,9 @@ pub fn raise(words: &mut [u64], b: usize, m: usize, k: u64)
     requires { Raisable k b m words.old }
     ensures { Raised k b m words.old words.new }
 {
-    let mut i = 0;
-    while i < m {
+    for i in 0..m {
         let at = i * b;
-        let end = at + b;
-        renumber(k, &mut words[at..end]);
-        i += 1;
+        renumber(k, &mut words[at..at + b]);
     }
 }
 
@@ -142,8 +151,7 @@ pub fn clear_block(words: &mut [u64], b: usize, m: usize, to: usize)
     ensures { Emptied b m to words.old words.new }
 {
     let at = to * b;
-    let end = at + b;
-    k_tuples::set::clear_set(&mut words[at..end]);
+    clear_set(&mut words[at..at + b]);
 }
 
 // Empties the first n blocks.
@@ -151,10 +159,8 @@ pub fn clear_first(words: &mut [u64], b: usize, m: usize, n: usize)
     requires { Sets b m words.old × (n ≤ m) }
     ensures { EmptiedFirst b m n words.old words.new }
 {
-    let mut i = 0;
-    while i < n {
+    for i in 0..n {
         clear_block(words, b, m, i);
-        i += 1;
     }
 }
 
@@ -163,13 +169,11 @@ fn take_block(words: &mut [u64], src: &[u64], b: usize, m: usize, l: usize, i: u
     requires { Both b m l words.old src.now × ((i < m) × (i < l)) }
     ensures { TakenBlock b m l i result src.now words.old words.new }
 {
-    let at = i * b;
-    let end = at + b;
-    if k_tuples::set::same_set(&src[at..end], &words[at..end]) {
-        return true;
+    let same = same_set(block(src, b, i), block(words, b, i));
+    if !same {
+        copy_block(words, src, b, m, l, i, i);
     }
-    copy_block(words, src, b, m, l, i, i);
-    false
+    same
 }
 
 // Makes the first n blocks those of src, and marks those that were it already. Tells whether all were.
@@ -186,14 +190,10 @@ pub fn take_first(
     ensures { TakenFirst b m l n result src.now words.old words.new same.new }
 {
     let mut all = true;
-    let mut i = 0;
-    while i < n {
+    for i in 0..n {
         let alike = take_block(words, src, b, m, l, i);
         same[i] = alike;
-        if !alike {
-            all = false;
-        }
-        i += 1;
+        all &= alike;
     }
     all
 }
@@ -203,7 +203,5 @@ pub fn is_complete(words: &[u64], b: usize, m: usize, at: usize, k: u64) -> bool
     requires { Sets b m words.now × (at < m) }
     ensures { AskedComplete k b m at result words.now }
 {
-    let from = at * b;
-    let end = from + b;
-    k_tuples::set::number(&words[from..end]) == 0
+    number(block(words, b, at)) == 0
 }

@@ -1,49 +1,36 @@
 // One set in lent words, to which others are added: its number of unfinished members is true at k before and after. Where what is added has
 // nothing unfinished, and a join has not where one of its two sets has not, the number stays as it is.
-ghost use Rattle.blocks.specs.Ones.{Two, Three, OneUnited, OneJoined, OneJoinAdded};
+ghost use Rattle.blocks.specs.Ones.{Two, Three, OneUnited, OneJoinAdded};
 
-use k_tuples::set::{Grown, add_number, count, finish, is_full, number};
+use k_joins::join::join_into;
+use k_tuples::set::{Grown, add_number, count, finish, number, union_into};
+use refusals::Refusal;
 
 // Adds a set to a set. Where the two have nothing in common, which their counts tell, their numbers are added.
-pub fn unite_one(set: &mut [u64], xs: &[u64], k: u64) -> Grown
+pub fn unite_one(set: &mut [u64], xs: &[u64], k: u64) -> Result<Grown, Refusal>
     requires { Two k set.old xs.now }
     ensures { OneUnited k result xs.now set.old set.new }
 {
     let old = count(set);
-    let g = k_tuples::set::union_into(set, xs);
+    let g = union_into(set, xs)?;
     if number(xs) == 0 {
-        return g;
-    }
-    if is_full(g) {
-        return g;
+        return Ok(g);
     }
     if count(set) == old + count(xs) {
         add_number(set, number(xs));
-        return g;
+        return Ok(g);
     }
-    finish(k, set, g)
+    finish(k, set, Ok(g))
 }
 
 // Adds the join of two sets to a set.
-pub fn join_more(set: &mut [u64], xs: &[u64], ys: &[u64], k: u64) -> Grown
+pub fn join_more(set: &mut [u64], xs: &[u64], ys: &[u64], k: u64) -> Result<Grown, Refusal>
     requires { Three k set.old xs.now ys.now }
     ensures { OneJoinAdded k result xs.now ys.now set.old set.new }
 {
-    let g = k_joins::join::join_into(set, xs, ys, k);
-    if number(xs) == 0 {
-        return g;
-    }
-    if number(ys) == 0 {
+    let g = join_into(set, xs, ys, k);
+    if number(xs) == 0 || number(ys) == 0 {
         return g;
     }
     finish(k, set, g)
-}
-
-// Makes a set the join of two: it is emptied, and the join is added.
-pub fn join_over(set: &mut [u64], xs: &[u64], ys: &[u64], k: u64) -> Grown
-    requires { Three k set.old xs.now ys.now }
-    ensures { OneJoined k result xs.now ys.now set.old set.new }
-{
-    k_tuples::set::clear_set(set);
-    join_more(set, xs, ys, k)
 }

@@ -5,7 +5,7 @@ use native.Mathlib.Numerals.{add-one}
 use native.Mathlib.Omega.{arith}
 use mathlib.Core.Path.{◌≡◌, sym, ap, ◌∙◌}
 use mathlib.Core.List.{List, [], ◌∷◌, map}
-use lib.ListN.{length, get_or, take, drop, length-drop}
+use lib.ListN.{length, get_or, take, drop}
 use lib.Seq.{get_or-drop, drop-drop, drop-cons, drop-length}
 use borrow.Author.Tests.{eq-eqb, ne_eqb}
 use Rattle.cfg.proofs.Symbols.{left_over}
@@ -13,11 +13,6 @@ use Rattle.cfg.specs.declared.table.Span.{Span}
 use Rattle.cfg.specs.Grammar.{Sym, nonterminal, terminal}
 use Rattle.cfg.specs.Written.{productions_of, symbol_of}
 use Rattle.cfg.specs.Words.{Sound, SoundHead, SpanAt, Below}
-
--- the head of the words from a place on, said of the words
-module _ (n : ℕ) (ws : List ℕ) (at : ℕ) (here : at ≤ length ws) (h : SoundHead n (drop at ws)) where
-  pub whole-at : at + 2 + get_or ws (at + 1) 0 ≤ length ws
-  whole-at = omega (arith, h.whole, length-drop at ws, get_or-drop at ws 1 0)
 
 -- i of p productions are passed, and the next begins at `at`
 pub record Cursor (n p : ℕ) (ws : List ℕ) (i at : ℕ) : Type 0 where

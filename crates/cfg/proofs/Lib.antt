@@ -1,12 +1,11 @@
 pub mod Number
 pub mod Field
 pub mod Symbols
-pub mod Production
 pub mod Productions
-pub mod Header
 pub mod Whole
 pub mod Cursor
 pub mod Sound
+pub mod Sides
 pub mod Count
 pub mod Refusals
 pub mod Marks

@@ -1,10 +1,11 @@
 -- The cases of `number`, each from the tests that lead to it. Assumes nothing.
 use Prim.Native.Nat.{ℕ, ◌+◌, ◌*◌, ◌-◌, ◌≤◌, ◌<◌}
-use native.Mathlib.Omega.{arith}
 use mathlib.Core.Path.{◌≡◌}
 use mathlib.Core.List.{List}
+use mathlib.Core.Bool.{Bool, true, false, not, ◌&&◌}
 use lib.ListN.{length, get_or}
-use borrow.Author.Tests.{lt-ltb, le-ltb, le-leb}
+use lib.Dec.{ltb, leb}
+use borrow.Author.Tests.{lt-ltb, le-ltb, not-true, not-false}
 use Rattle.cfg.specs.Reading.{got, refused}
 use Rattle.cfg.specs.Number.{number}
 
@@ -20,11 +21,9 @@ module _ (b : List ℕ) (at : ℕ) where
     ended-second s = simp (lt-ltb at (length b) h, ← e, le-ltb low 128 l, le-ltb (at + 1) (length b) s)
 
     module _ (high : ℕ) (f : high ≡ get_or b (at + 1) 0) (s : at + 1 < length b) where
-      pub not-shortest : high ≡ 0 → refused 4 ≡ number b at
-      not-shortest z = simp (lt-ltb at (length b) h, ← e, le-ltb low 128 l, lt-ltb (at + 1) (length b) s, ← f, z)
+      module _ (last : Bool) (g : last ≡ (leb 1 high && ltb high 128)) where
+        pub not_last : not last ≡ true → refused 4 ≡ number b at
+        not_last z = simp (lt-ltb at (length b) h, ← e, le-ltb low 128 l, lt-ltb (at + 1) (length b) s, ← f, ← g, not-true last z)
 
-      pub too_long : (high ≡ 0 → ⊥) → 128 ≤ high → refused 4 ≡ number b at
-      too_long z m = simp (lt-ltb at (length b) h, ← e, le-ltb low 128 l, lt-ltb (at + 1) (length b) s, ← f, le-ltb high 128 m, le-leb 1 high (omega arith))
-
-      pub two-groups : (high ≡ 0 → ⊥) → high < 128 → got (low - 128 + high * 128) (at + 1 + 1) ≡ number b at
-      two-groups z m = simp (lt-ltb at (length b) h, ← e, le-ltb low 128 l, lt-ltb (at + 1) (length b) s, ← f, lt-ltb high 128 m, le-leb 1 high (omega arith))
+        pub two-groups : not last ≡ false → got (low - 128 + high * 128) (at + 1 + 1) ≡ number b at
+        two-groups z = simp (lt-ltb at (length b) h, ← e, le-ltb low 128 l, lt-ltb (at + 1) (length b) s, ← f, ← g, not-false last z)

@@ -8,13 +8,13 @@ use mathlib.Core.List.{List, [], ◌∷◌, ◌++◌, append_assoc, cons-eq-cons
 use lib.ListN.{length, get_or, drop, length-append, length-drop}
 use lib.Seq.{drop-cons, drop-drop, drop-append_seam}
 use lib.Dec.{ltb}
-use borrow.Author.Tests.{ltb-true, ltb-false, lt-ltb, le-ltb}
+use borrow.Author.Tests.{ltb-true, ltb-false, lt-ltb, le-ltb, le-leb}
 use Rattle.cfg.specs.Reading.{Reading, got, refused}
 use Rattle.cfg.specs.Number.{number}
 use Rattle.cfg.specs.Write.{write_number, write_numbers, Bytes}
 use Rattle.cfg.specs.Refused.{Unfinished, Malformed}
 use Rattle.cfg.proofs.Field.{got-refused}
-use Rattle.cfg.proofs.Number.{ended, one-group, ended-second, not-shortest, too_long, two-groups}
+use Rattle.cfg.proofs.Number.{ended, one-group, ended-second, not_last, two-groups}
 use Rattle.cfg.proofs.Marks.{bool_cases}
 
 pub side : (a b : ℕ) → (a < b) ⊎ (b ≤ a)
@@ -56,13 +56,14 @@ module _ (b : List ℕ) (at : ℕ) where
     malformed-at m =
         let (inside, same, more) = first_byte b at low (high ∷ c) e in
         let (far, same-high, _) = first_byte b (at + 1) high c more in
-        ⊎_elim (λ (h : 128 ≤ high). too_long b at low same inside l high same-high far (omega arith) h) (λ (z : high ≡ 0). not-shortest b at low same inside l high same-high far z) m
+        not_last b at low same inside l high same-high far _ refl
+        (⊎_elim (λ (h : 128 ≤ high). rw (le-ltb high 128 h, le-leb 1 high (omega arith))) (λ (z : high ≡ 0). rw z) m)
 
     pub two_at : 1 ≤ high → high < 128 → got (low - 128 + high * 128) (at + 1 + 1) ≡ number b at
     two_at z h =
         let (inside, same, more) = first_byte b at low (high ∷ c) e in
         let (far, same-high, _) = first_byte b (at + 1) high c more in
-        two-groups b at low same inside l high same-high far (omega arith) h
+        two-groups b at low same inside l high same-high far _ refl (rw (lt-ltb high 128 h, le-leb 1 high z))
 
     second : Is (number b at)
     second = ⊎_elim

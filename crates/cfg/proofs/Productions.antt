@@ -5,10 +5,8 @@ use mathlib.Core.Path.{◌≡◌, refl, ◌∙◌}
 use mathlib.Core.List.{List, []}
 use lib.ListN.{length, take}
 use lib.Seq.{length-take-le}
-use Rattle.cfg.specs.declared.table.Answer.{Answer}
-use Rattle.cfg.specs.declared.table.Answer.TheVariants.{Got, Refused}
-use Rattle.cfg.specs.Reading.{Reading, got, ◌then◌}
-use Rattle.cfg.specs.Table.{production, productions, says_words, UsesBetween}
+use Rattle.cfg.specs.Reading.{Reading, got, refused, ◌then◌}
+use Rattle.cfg.specs.Table.{production, productions}
 use Rattle.cfg.proofs.Symbols.{left_over}
 
 -- i of p productions are read, into the first `used` words; what is read from `at` on completes `goal`
@@ -20,9 +18,8 @@ pub record Reads (b : List ℕ) (n t p : ℕ) (goal : Reading (List ℕ)) (size 
   pub same : length words ≡ size
   pub rest : productions b n t i (p - i) (take used words) at ≡ goal
 
-module _ (b : List ℕ) (n t p : ℕ) (goal : Reading (List ℕ)) (size : ℕ) (words : List ℕ) (used i at : ℕ) (a : Answer) (words' : List ℕ)
-    (w : Reads b n t p goal size words used i at) (h : i < p)
-    (s : says_words a words' ≡ production b n t (used - 2 * i) (take used words) at) where
+module _ (b : List ℕ) (n t p : ℕ) (goal : Reading (List ℕ)) (size : ℕ) (words : List ℕ) (used i at : ℕ)
+    (w : Reads b n t p goal size words used i at) (h : i < p) where
   -- the rest, from this production on
   unfolded : (production b n t (used - 2 * i) (take used words) at then λ ws next. productions b n t (i + 1) (p - (i + 1)) ws next) ≡ goal
   unfolding productions
@@ -30,21 +27,20 @@ module _ (b : List ℕ) (n t p : ℕ) (goal : Reading (List ℕ)) (size : ℕ) (
       let len : length (take used words) ≡ used = length-take-le used words (omega (arith, w.same, w.few, w.room)) in
       (rw (left_over i p h, len) at w.rest)
 
-  pub production-refused : (r : ℕ) → a ≡ Refused r → says_words a words' ≡ goal
-  production-refused r e = rw (← unfolded, ← s, e)
+  pub production-refused : (r : ℕ) → refused r ≡ production b n t (used - 2 * i) (take used words) at → refused r ≡ goal
+  production-refused r s = rw (← unfolded, ← s)
 
-  pub production-more : (used' next : ℕ) → a ≡ Got used' next → length words' ≡ length words
-      → UsesBetween a (used + 2) (used + 2 + (4096 - (used - 2 * i)))
+  pub production-more : (words' : List ℕ) (used' next : ℕ) → got (take used' words') next ≡ production b n t (used - 2 * i) (take used words) at
+      → length words' ≡ length words → used + 2 ≤ used' → used' ≤ used + 2 + (4096 - (used - 2 * i))
       → Reads b n t p goal size words' used' (i + 1) next
-  production-more used' next e same uses =
-      let grown : UsesBetween (Got used' next) (used + 2) (used + 2 + (4096 - (used - 2 * i))) = rw e at uses in
+  production-more words' used' next s same least most =
       record {
         below = omega arith;
         room = w.room;
         two-each = omega arith;
         few = omega arith;
         same = same ∙ w.same;
-        rest = rw (← unfolded, ← s, e);
+        rest = rw (← unfolded, ← s);
       }
 
 pub productions-start : (b : List ℕ) (n t p : ℕ) (words : List ℕ) (at : ℕ)

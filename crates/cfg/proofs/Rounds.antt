@@ -2,25 +2,17 @@
 use Prim.Native.Nat.{ℕ, zero, suc, ◌+◌, ◌-◌, ◌%◌, ◌/◌, ◌≤◌, ◌<◌}
 use native.Mathlib.Omega.{arith}
 use mathlib.Core.Path.{◌≡◌, refl, sym, ap, ◌∙◌}
-use mathlib.Core.List.{List, map}
+use mathlib.Core.List.{List, [], ◌∷◌, map}
 use mathlib.Core.Bool.{Bool, true, false, not, ◌&&◌, true≢false}
-use lib.ListN.{length, get_or, set, take, drop}
+use lib.ListN.{length, get_or, set, drop}
 use lib.Seq.{set-get_or}
-use borrow.Author.Tests.{not-true, not-false}
 use Rattle.cfg.specs.Reading.{pick}
-use Rattle.cfg.specs.Grammar.{Production}
-use Rattle.cfg.specs.Written.{productions_of, symbol_of}
-use Rattle.cfg.specs.Words.{Sound, Below, SpanAt}
-use Rattle.cfg.specs.declared.table.Span.{Span}
-use Rattle.cfg.proofs.Cursor.{Cursor, cursor-start, cursor-next, span-first, Place, place-start, place_end, place-terminal, place-nonterminal, right-split, odd-terminal, even-nonterminal}
+use Rattle.cfg.specs.Grammar.{Sym, Production}
+use Rattle.cfg.specs.Written.{symbol_of}
+use Rattle.cfg.specs.Words.{Below}
+use Rattle.cfg.proofs.Cursor.{Place, place-start, place_end, place-terminal, place-nonterminal, right-split, odd-terminal, even-nonterminal}
 use Rattle.cfg.specs.Marks.{no_marks}
 use Rattle.cfg.specs.Closure.{all_marked, close_one, close_round, close_rounds, closure}
-
-and-true : (a b : Bool) → not a ≡ false → b ≡ (a && b)
-and-true a b z = rw (not-false a z)
-
-and-false : (a b : Bool) → not a ≡ true → false ≡ (a && b)
-and-false a b z = rw (not-true a z)
 
 -- the symbols up to j are marked; whether all are hangs on the rest
 pub record Sees (free : Bool) (marks : List Bool) (right : List ℕ) (goal : Bool) (j : ℕ) : Type 0 where
@@ -36,28 +28,34 @@ module _ (free : Bool) (marks : List Bool) (right : List ℕ) where
     unfolding all_marked
     sees-done h = rw (place_end 128 right j w.place h) at w.rest
 
-    module _ (h : j < length right) where
-      module _ (odd : get_or right j 0 % 2 ≡ 1) where
-        terminal-rest : (free && all_marked free marks (map symbol_of (drop (j + 1) right))) ≡ goal
-        unfolding all_marked
-        terminal-rest = rw (right-split right j h, odd-terminal (get_or right j 0) odd) at w.rest
+    module _ (h : j < length right) (marked : Bool) where
+      -- the symbol at j is passed where it is marked; whether all are hangs on it and the rest
+      pub Looked : Type 0
+      Looked = Place 128 right (j + 1) × ((marked && all_marked free marks (map symbol_of (drop (j + 1) right))) ≡ goal)
 
-        pub terminal-fails : not free ≡ true → false ≡ goal
-        terminal-fails z = and-false free _ z ∙ terminal-rest
+      -- a terminal is marked where terminals are free
+      pub terminal-looked : get_or right j 0 % 2 ≡ 1 → marked ≡ free → Looked
+      unfolding all_marked Looked
+      terminal-looked odd e = (place-terminal 128 right j w.place h odd, rw e (rw (right-split right j h, odd-terminal (get_or right j 0) odd) at w.rest))
 
-        pub terminal-passes : not free ≡ false → Sees free marks right goal (j + 1)
-        terminal-passes z = record { place = place-terminal 128 right j w.place h odd; rest = and-true free _ z ∙ terminal-rest }
+      -- a nonterminal by its mark
+      pub nonterminal-looked : (get_or right j 0 % 2 ≡ 1 → ⊥) → (b : ℕ) → b ≡ get_or right j 0 / 2 → marked ≡ get_or marks b false → Looked
+      unfolding all_marked Looked
+      nonterminal-looked even b same e = (
+        place-nonterminal 128 right j w.place h even,
+        rw (e, same) (rw (right-split right j h, even-nonterminal (get_or right j 0) even) at w.rest),
+      )
 
-      module _ (even : get_or right j 0 % 2 ≡ 1 → ⊥) where
-        nonterminal-rest : (get_or marks (get_or right j 0 / 2) false && all_marked free marks (map symbol_of (drop (j + 1) right))) ≡ goal
-        unfolding all_marked
-        nonterminal-rest = rw (right-split right j h, even-nonterminal (get_or right j 0) even) at w.rest
+      module _ (l : Looked) where
+        -- one that is not marked decides
+        pub look_fails : marked ≡ false → false ≡ goal
+        unfolding Looked
+        look_fails z = rw z at l.1
 
-        pub nonterminal-fails : not (get_or marks (get_or right j 0 / 2) false) ≡ true → false ≡ goal
-        nonterminal-fails z = and-false (get_or marks (get_or right j 0 / 2) false) _ z ∙ nonterminal-rest
-
-        pub nonterminal-passes : not (get_or marks (get_or right j 0 / 2) false) ≡ false → Sees free marks right goal (j + 1)
-        nonterminal-passes z = record { place = place-nonterminal 128 right j w.place h even; rest = and-true (get_or marks (get_or right j 0 / 2) false) _ z ∙ nonterminal-rest }
+        -- one that is leaves it to the rest
+        pub look_passes : marked ≡ true → Sees free marks right goal (j + 1)
+        unfolding Looked
+        look_passes z = record { place = l.0; rest = rw z at l.1 }
 
 -- a left side that is marked needs no look at its right side
 look-once : (m : List Bool) (l : ℕ) (a : Bool) → pick (not (get_or m l false) && a) (set m l true) m ≡ pick a (set m l true) m
@@ -68,39 +66,31 @@ look-once m l a = by (get_or m l false) refl a
     by true e false = refl
     by false e a = refl
 
--- i productions are passed; what is left of them completes `goal`; without a new mark the marks are those before
-pub record Closes (free : Bool) (p : ℕ) (words : List ℕ) (goal marks closed : List Bool) (grew : Bool) (i at : ℕ) : Type 0 where
-  pub cursor : Cursor 128 p words i at
-  pub rest : close_round free (productions_of (p - i) (drop at words)) closed ≡ goal
+-- what is left of the productions, `rest`, completes `goal`; without a new mark the marks are those before
+pub record Closes (free : Bool) (goal marks : List Bool) (rest : List Production) (closed : List Bool) (grew : Bool) : Type 0 where
+  pub more : close_round free rest closed ≡ goal
   pub still : grew ≡ false → closed ≡ marks
 
-module _ (free : Bool) (p : ℕ) (words : List ℕ) where
-  pub closes-start : (marks : List Bool) → Sound 128 p words → Closes free p words (close_round free (productions_of p words) marks) marks marks false 0 0
-  closes-start marks s =
-      let all : p - 0 ≡ p = omega arith in
-      record { cursor = cursor-start 128 p words s; rest = rw all; still = λ _. refl }
+pub closes-start : (free : Bool) (ps rest : List Production) (marks : List Bool) → rest ≡ ps → Closes free (close_round free ps marks) marks rest marks false
+closes-start free ps rest marks e = record { more = rw e; still = λ _. refl }
 
-  module _ (goal marks closed : List Bool) (grew : Bool) (i at : ℕ) (w : Closes free p words goal marks closed grew i at) where
-    pub closes-done : p ≤ i → closed ≡ goal
-    unfolding close_round
-    closes-done h =
-        let none : p - i ≡ 0 = omega arith in
-        rw none at w.rest
+module _ (free : Bool) (goal marks : List Bool) (rest : List Production) (closed : List Bool) (grew : Bool) (w : Closes free goal marks rest closed grew) where
+  pub closes-done : rest ≡ [] → closed ≡ goal
+  unfolding close_round
+  closes-done e = rw e at w.more
 
-    module _ (h : i < p) (span : Span) (s : SpanAt words at span) (test : Bool)
-        (t : test ≡ (not (get_or closed span.left false) && all_marked free closed (map symbol_of (take (span.to - span.from) (drop span.from words))))) where
-      -- what is left of them, after this one
-      left : close_round free (productions_of (p - (i + 1)) (drop span.to words)) (pick test (set closed span.left true) closed) ≡ goal
-      unfolding close_round close_one
-      left = rw (t, look-once closed span.left (all_marked free closed (map symbol_of (take (span.to - span.from) (drop span.from words))))) (rw (span-first 128 p words i at w.cursor h span s) at w.rest)
+  module _ (left : ℕ) (right : List Sym) (behind : List Production) (e : rest ≡ record { left = left; right = right } ∷ behind) (k : ℕ) (same : k ≡ left) (test : Bool)
+      (t : test ≡ (not (get_or closed k false) && all_marked free closed right)) where
+    -- what is left of them, after this one
+    passed : close_round free behind (pick test (set closed k true) closed) ≡ goal
+    unfolding close_round close_one
+    passed = rw (t, same, look-once closed left (all_marked free closed right)) (rw e at w.more)
 
-      pub closes-mark : test ≡ true → (closed' : List Bool) → closed' ≡ set closed span.left true → (grew' : Bool) → grew' ≡ true → Closes free p words goal marks closed' grew' (i + 1) span.to
-      closes-mark z closed' e grew' g =
-          record { cursor = cursor-next 128 p words i at w.cursor h span s; rest = rw e (rw z at left); still = λ n. absurd (true≢false (sym g ∙ n)) }
+    pub closes-mark : test ≡ true → Closes free goal marks behind (set closed k true) true
+    closes-mark z = record { more = rw z at passed; still = λ n. absurd (true≢false n) }
 
-      pub closes-pass : test ≡ false → (closed' : List Bool) → closed' ≡ closed → (grew' : Bool) → grew' ≡ grew → Closes free p words goal marks closed' grew' (i + 1) span.to
-      closes-pass z closed' e grew' g =
-          record { cursor = cursor-next 128 p words i at w.cursor h span s; rest = rw e (rw z at left); still = λ n. e ∙ w.still (sym g ∙ n) }
+    pub closes-pass : test ≡ false → Closes free goal marks behind closed grew
+    closes-pass z = record { more = rw z at passed; still = w.still }
 
 -- k of n rounds are done
 pub record Repeats (free : Bool) (ps : List Production) (n : ℕ) (goal closed : List Bool) (k : ℕ) : Type 0 where

@@ -6,11 +6,8 @@ use mathlib.Core.Path.{◌≡◌, refl, ◌∙◌}
 use mathlib.Core.List.{List}
 use lib.ListN.{length, take, set, length-set}
 use lib.Seq.{take-suc-set}
-use Rattle.cfg.specs.declared.table.Answer.{Answer}
-use Rattle.cfg.specs.declared.table.Answer.TheVariants.{Got, Refused}
-use Rattle.cfg.specs.Reading.{Reading, got}
-use Rattle.cfg.specs.Number.{says}
-use Rattle.cfg.specs.Table.{symbol, symbols, says_words}
+use Rattle.cfg.specs.Reading.{Reading, got, refused}
+use Rattle.cfg.specs.Table.{symbol, symbols}
 
 -- a place below an end is a turn that is left
 pub left_over : (i e : ℕ) → i < e → e - i ≡ suc (e - (i + 1))
@@ -24,23 +21,24 @@ pub record Reads (b : List ℕ) (n t : ℕ) (goal : Reading (List ℕ)) (size e 
   pub same : length words ≡ size
   pub rest : symbols b n t (e - i) (take i words) at ≡ goal
 
-module _ (b : List ℕ) (n t : ℕ) (goal : Reading (List ℕ)) (size e : ℕ) (words : List ℕ) (i at : ℕ) (a : Answer)
-    (w : Reads b n t goal size e words i at) (s : says a ≡ symbol b n t at) where
-  pub symbols-refused : i < e → (r : ℕ) → a ≡ Refused r → says_words a words ≡ goal
+module _ (b : List ℕ) (n t : ℕ) (goal : Reading (List ℕ)) (size e : ℕ) (words : List ℕ) (i at : ℕ)
+    (w : Reads b n t goal size e words i at) (h : i < e) where
+  pub symbols-refused : (r : ℕ) → refused r ≡ symbol b n t at → refused r ≡ goal
   unfolding symbols
-  symbols-refused h r q = rw (← w.rest, left_over i e h, ← s, q)
+  symbols-refused r s = rw (← w.rest, left_over i e h, ← s)
 
-  pub symbols-more : i < e → (v next : ℕ) → a ≡ Got v next → Reads b n t goal size e (set words i v) (i + 1) next
+  pub symbols-more : (v next : ℕ) → got v next ≡ symbol b n t at → (k : ℕ) → k ≡ i → Reads b n t goal size e (set words k v) (i + 1) next
   unfolding symbols
-  symbols-more h v next q =
+  symbols-more v next s k z =
       let inside : i < length words = omega (arith, w.same, w.room) in
-      record {
+      rw z
+      (record {
         below = omega arith;
         room = w.room;
         small = w.small;
         same = length-set words i v ∙ w.same;
-        rest = rw (← w.rest, left_over i e h, ← s, q, add-one, take-suc-set words i v inside);
-      }
+        rest = rw (← w.rest, left_over i e h, ← s, add-one, take-suc-set words i v inside);
+      })
 
 module _ (b : List ℕ) (n t count : ℕ) (words : List ℕ) (used at : ℕ) where
   pub symbols-start : used + count ≤ length words → used + count < 65536
@@ -50,8 +48,9 @@ module _ (b : List ℕ) (n t count : ℕ) (words : List ℕ) (used at : ℕ) whe
       record { below = omega arith; room = room; small = small; same = refl; rest = rw all }
 
 pub symbols-done : (b : List ℕ) (n t : ℕ) (goal : Reading (List ℕ)) (size e : ℕ) (words : List ℕ) (i at : ℕ)
-    → Reads b n t goal size e words i at → e ≤ i → got (take i words) at ≡ goal
+    → Reads b n t goal size e words i at → e ≤ i → got (take e words) at ≡ goal
 unfolding symbols
 symbols-done b n t goal size e words i at w h =
-    let none : e - i ≡ 0 = omega arith in
-    rw (none) at w.rest
+    let end : i ≡ e = omega (arith, w.below) in
+    let none : e - e ≡ 0 = omega arith in
+    rw (end, none) at w.rest

@@ -1,18 +1,19 @@
 -- The cases of `test_refusal` and of `accept_table`. Assumes nothing.
 use Prim.Native.Nat.{ℕ, zero, suc, ◌+◌, ◌≤◌}
 use native.Mathlib.Omega.{arith}
-use mathlib.Core.Path.{◌≡◌, sym, ap, ◌∙◌}
+use mathlib.Core.Path.{◌≡◌, sym}
 use mathlib.Core.List.{List, [], ◌∷◌, map}
 use mathlib.Core.Bool.{Bool, true, false}
-use lib.ListN.{length, get_or, take, drop}
-use lib.Seq.{length-take-le}
+use lib.ListN.{get_or, take, drop}
 use borrow.Author.Tests.{ne_eqb}
+use Rattle.refusals.specs.Numbers.{number as number_of}
+use Rattle.refusals.specs.declared.Refusal.{Refusal}
+use Rattle.refusals.proofs.Numbers.{number-positive}
 use Rattle.cfg.specs.Reading.{got, refused}
 use Rattle.cfg.specs.Grammar.{Sym, nonterminal, terminal, Production}
 use Rattle.cfg.specs.Written.{productions_of, symbol_of}
 use Rattle.cfg.specs.Words.{Sound, Below}
-use Rattle.cfg.specs.Table.{read_table, table_says, grammar_of, TableSound, GrammarSound}
-use Rattle.cfg.specs.declared.table.TableAnswer.{TableAnswer}
+use Rattle.cfg.specs.Table.{Header, grammar_of, read_table, GrammarSound}
 use Rattle.cfg.specs.Closure.{closure}
 use Rattle.cfg.specs.Corners.{left_recursive}
 use Rattle.cfg.specs.Accept.{unproductive, test_refusal, accept_table}
@@ -44,31 +45,19 @@ sound-wider n m h (suc p) ws s = (
   sound-wider n m h p (drop (2 + get_or ws 1 0) ws) s.1,
 )
 
-module _ (a : TableAnswer) (words : List ℕ) (n t start p used : ℕ) (e : a ≡ TableAnswer.Table n t start p used) (w : TableSound a words) where
-  pub known-sound : GrammarSound n p used words
-  known-sound = rw e at w
+-- what is read is sound below 128, in the words in use
+pub words-sound : (n p used k : ℕ) → k ≡ used → (words : List ℕ) → GrammarSound n p used words → Sound 128 p (take k words)
+words-sound n p used k same words known = rw same (sound-wider n 128 known.nonterminals p (take used words) known.sound)
 
-  pub nonterminals-few : n ≤ 128
-  nonterminals-few = known-sound.nonterminals
+module _ (b : List ℕ) (h : Header) (words : List ℕ) (used next k : ℕ) (s : got (grammar_of h (take used words)) next ≡ read_table b) (same : k ≡ used) where
+  pub grammar-accepted : 0 ≡ test_refusal (productions_of h.p (take k words)) h.n → got (grammar_of h (take used words)) next ≡ accept_table b
+  unfolding accept_table
+  grammar-accepted z = rw (← s, sym (rw same at z))
 
-  pub words_inside : used ≤ length words
-  words_inside = known-sound.inside
+  pub grammar-refused : (e : Refusal) → number_of e ≡ test_refusal (productions_of h.p (take k words)) h.n → refused (number_of e) ≡ accept_table b
+  unfolding accept_table
+  grammar-refused e z = rw (← s, sym (rw same at z), ne_eqb (number_of e) 0 (λ k. omega (arith, number-positive e)))
 
-  pub words-length : used ≡ length (take used words)
-  words-length = sym (length-take-le used words words_inside)
-
-  pub words-sound : Sound 128 p (take used words)
-  words-sound = sound-wider n 128 known-sound.nonterminals p (take used words) known-sound.sound
-
-  module _ (b : List ℕ) (end : ℕ) (s : table_says a end words ≡ read_table b) (r : ℕ) (q : r ≡ test_refusal (productions_of p (take used words)) n) where
-    pub grammar-accepted : r ≡ 0 → got (grammar_of (record { n = n; t = t; start = start; p = p }) (take used words)) end ≡ accept_table b
-    unfolding accept_table
-    grammar-accepted z = rw (← s, e, ← q, z)
-
-    pub grammar-refused : (r ≡ 0 → ⊥) → refused r ≡ accept_table b
-    unfolding accept_table
-    grammar-refused z = rw (← s, e, ← q, ne_eqb r 0 z)
-
-pub table-refused : (a : TableAnswer) (words : List ℕ) (r : ℕ) → a ≡ TableAnswer.Refused r → (b : List ℕ) (end : ℕ) → table_says a end words ≡ read_table b → table_says a end words ≡ accept_table b
+pub table-refused : (r : ℕ) (b : List ℕ) → refused r ≡ read_table b → refused r ≡ accept_table b
 unfolding accept_table
-table-refused a words r e b end s = ap (λ (z : TableAnswer). table_says z end words) e ∙ rw (← s, e)
+table-refused r b s = rw (← s)

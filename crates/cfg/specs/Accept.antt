@@ -1,5 +1,7 @@
 -- Which tables are accepted: none of the refusals 3 to 9 applies. Assumes nothing.
-use Rattle.std.specs.Prelude.{ℕ, ◌≡◌, refl, List, [], ◌∷◌, Bool, true, false, not, get_or, eqb}
+use Rattle.std.specs.Prelude.{ℕ, ◌≡◌, refl, Result, Ok, Err, List, [], ◌∷◌, Bool, true, false, not, get_or, eqb}
+use Rattle.refusals.specs.Numbers.{number as number_of}
+use Rattle.refusals.specs.declared.Refusal.{Refusal}
 use Rattle.cfg.specs.Reading.{Reading, got, refused, pick, ◌then◌}
 use Rattle.cfg.specs.Grammar.{Grammar, Production}
 use Rattle.cfg.specs.Table.{read_table, productions, symbols}
@@ -18,6 +20,11 @@ unproductive ps n = any_below n (misses (closure true ps n))
 -- what the tests refuse: 8 or 9, or 0 where they pass
 unfoldable pub test_refusal : List Production → ℕ → ℕ
 test_refusal ps n = pick (unproductive ps n) 8 (pick (left_recursive (closure false ps n) ps n) 9 0)
+
+-- what the tests' answer says of it
+abbrev pub tests_say : Result (Unit {0}) Refusal → ℕ
+tests_say (Ok _) = 0
+tests_say (Err e) = number_of e
 
 abbrev pub passes : ℕ → Grammar → ℕ → Reading Grammar
 passes r g next = pick (eqb r 0) (got g next) (refused r)

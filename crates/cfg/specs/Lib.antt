@@ -3,7 +3,9 @@ pub mod Reading
 pub mod Number
 pub mod Written
 pub mod Words
+pub mod Props
 pub mod Table
+pub mod Productions
 pub mod Marks
 pub mod Closure
 pub mod Corners

@@ -1,9 +1,10 @@
 -- A number of the table: groups of seven bits, low group first, the top bit set when another follows; at most two groups, shortest form only.
 -- Assumes nothing.
-use Rattle.std.specs.Prelude.{ℕ, ◌+◌, ◌*◌, ◌-◌, List, [], ◌∷◌, ◌&&◌, ◌≡◌, refl, length, get_or, ltb, leb}
+use Rattle.std.specs.Prelude.{ℕ, ◌+◌, ◌*◌, ◌-◌, List, [], ◌∷◌, ◌&&◌, ◌≡◌, refl, Result, Ok, Err, length, get_or, ltb, leb}
 use Rattle.cfg.specs.Reading.{Reading, got, refused, pick, ◌then◌}
-use Rattle.cfg.specs.declared.table.Answer.{Answer}
-use Rattle.cfg.specs.declared.table.Answer.TheVariants.{Got, Refused}
+use Rattle.refusals.specs.Numbers.{number as number_of}
+use Rattle.refusals.specs.declared.Refusal.{Refusal}
+use Rattle.cfg.specs.declared.table.Read.{Read}
 
 -- the byte at a place, or refusal 3 where the table has ended
 abbrev pub byte : List ℕ → ℕ → Reading ℕ
@@ -19,9 +20,9 @@ number b at =
     pick (leb 1 high && ltb high 128) (got (low - 128 + high * 128) next) (refused 4))
 
 -- what an answer says, as this paper's numbers
-abbrev pub says : Answer → Reading ℕ
-says (Got v next) = got v next
-says (Refused r) = refused r
+abbrev pub says : Result (Read ℕ) Refusal → Reading ℕ
+says (Ok read) = got read.value read.next
+says (Err e) = refused (number_of e)
 
 number-one-group : number (5 ∷ 7 ∷ []) 0 ≡ got 5 1
 number-one-group = refl

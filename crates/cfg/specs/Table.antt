@@ -1,11 +1,12 @@
 -- The grammar table, in reading order. Assumes nothing.
-use Rattle.std.specs.Prelude.{ℕ, zero, suc, ◌+◌, ◌*◌, ◌-◌, ◌/◌, ◌%◌, min, ◌≤◌, List, [], ◌∷◌, ◌++◌, Bool, ◌&&◌, ◌≡◌, refl, length, take, ltb, leb, eqb}
+use Rattle.std.specs.Prelude.{ℕ, zero, suc, ◌+◌, ◌*◌, ◌-◌, ◌/◌, ◌%◌, min, ◌≤◌, List, [], ◌∷◌, ◌++◌, Bool, ◌&&◌, ◌≡◌, refl, Result, Ok, Err, length, take, ltb, leb, eqb}
 use Rattle.cfg.specs.Reading.{Reading, got, refused, pick, ◌then◌}
 use Rattle.cfg.specs.Number.{number}
-use Rattle.cfg.specs.declared.table.Answer.{Answer}
-use Rattle.cfg.specs.declared.table.Answer.TheVariants.{Got, Refused}
-use Rattle.cfg.specs.declared.table.HeaderAnswer.{HeaderAnswer}
-use Rattle.cfg.specs.declared.table.TableAnswer.{TableAnswer}
+use Rattle.refusals.specs.Numbers.{number as number_of}
+use Rattle.refusals.specs.declared.Refusal.{Refusal}
+use Rattle.cfg.specs.declared.table.Read.{Read}
+use Rattle.cfg.specs.declared.table.Shape.{Shape}
+use Rattle.cfg.specs.declared.table.Table.{Table}
 use Rattle.cfg.specs.Words.{Sound}
 use Rattle.cfg.specs.Grammar.{Grammar, nonterminal, terminal}
 use Rattle.cfg.specs.Written.{productions_of}
@@ -42,19 +43,14 @@ productions b n t i (suc p) ws at =
     production b n t (length ws - 2 * i) ws at then λ ws next. productions b n t (i + 1) p ws next
 
 -- an answer whose value tells how many words are in use
-abbrev pub says_words : Answer → List ℕ → Reading (List ℕ)
-says_words (Got used next) words = got (take used words) next
-says_words (Refused r) words = refused r
-
--- the number of a refusal, and 0 of a value
-abbrev pub refusal_of : Answer → ℕ
-refusal_of (Got v next) = 0
-refusal_of (Refused r) = r
+abbrev pub says_words : Result (Read ℕ) Refusal → List ℕ → Reading (List ℕ)
+says_words (Ok read) words = got (take read.value words) read.next
+says_words (Err e) words = refused (number_of e)
 
 -- such an answer's value lies between two bounds
-abbrev pub UsesBetween : Answer → ℕ → ℕ → Type 0
-UsesBetween (Got used next) least most = (least ≤ used) × (used ≤ most)
-UsesBetween (Refused r) least most = Unit {0}
+abbrev pub UsesBetween : Result (Read ℕ) Refusal → ℕ → ℕ → Type 0
+UsesBetween (Ok read) least most = (least ≤ read.value) × (read.value ≤ most)
+UsesBetween (Err e) least most = Unit {0}
 
 -- nothing may follow
 abbrev pub ends : {A : Type 0} → List ℕ → A → ℕ → Reading A
@@ -75,14 +71,10 @@ header b =
     field b 5 0 512 next then λ p next.
     got (record { n = n; t = t; start = start; p = p }) next
 
-abbrev pub header_refusal_of : HeaderAnswer → ℕ
-header_refusal_of (HeaderAnswer.Header n t start p next) = 0
-header_refusal_of (HeaderAnswer.Refused r) = r
-
 -- a header that is read keeps its limits
-abbrev pub HeaderInside : HeaderAnswer → Type 0
-HeaderInside (HeaderAnswer.Header n t start p next) = (1 ≤ n) × (n ≤ 128) × (t ≤ 4089) × (p ≤ 512)
-HeaderInside (HeaderAnswer.Refused r) = Unit {0}
+abbrev pub HeaderInside : Result (Read Shape) Refusal → Type 0
+HeaderInside (Ok read) = (1 ≤ read.value.n) × (read.value.n ≤ 128) × (read.value.t ≤ 4089) × (read.value.p ≤ 512)
+HeaderInside (Err e) = Unit {0}
 
 -- the grammar whose productions stand in some words
 abbrev pub grammar_of : Header → List ℕ → Grammar
@@ -96,13 +88,16 @@ read_table b =
     ends b (grammar_of h ws) next
 
 -- what the header's and the table's answers say
-abbrev pub header_says : HeaderAnswer → Reading Header
-header_says (HeaderAnswer.Header n t start p next) = got (record { n = n; t = t; start = start; p = p }) next
-header_says (HeaderAnswer.Refused r) = refused r
+abbrev pub header_of : Shape → Header
+header_of s = record { n = s.n; t = s.t; start = s.start; p = s.p }
 
-abbrev pub table_says : TableAnswer → ℕ → List ℕ → Reading Grammar
-table_says (TableAnswer.Table n t start p used) end words = got (grammar_of (record { n = n; t = t; start = start; p = p }) (take used words)) end
-table_says (TableAnswer.Refused r) end words = refused r
+abbrev pub header_says : Result (Read Shape) Refusal → Reading Header
+header_says (Ok read) = got (header_of read.value) read.next
+header_says (Err e) = refused (number_of e)
+
+abbrev pub table_says : Result Table Refusal → ℕ → List ℕ → Reading Grammar
+table_says (Ok table) end words = got (grammar_of (header_of table.shape) (take table.used words)) end
+table_says (Err e) end words = refused (number_of e)
 
 -- a grammar that is read keeps its limits, and its words are sound
 pub record GrammarSound (n p used : ℕ) (words : List ℕ) : Type 0 where
@@ -111,9 +106,9 @@ pub record GrammarSound (n p used : ℕ) (words : List ℕ) : Type 0 where
   pub inside : used ≤ length words
   pub sound : Sound n p (take used words)
 
-abbrev pub TableSound : TableAnswer → List ℕ → Type 0
-TableSound (TableAnswer.Table n t start p used) words = GrammarSound n p used words
-TableSound (TableAnswer.Refused r) words = Unit {0}
+abbrev pub TableSound : Result Table Refusal → List ℕ → Type 0
+TableSound (Ok table) words = GrammarSound table.shape.n table.shape.p table.used words
+TableSound (Err e) words = Unit {0}
 
 -- S → 5 V; V → 6; V → nothing
 listing-table : read_table (2 ∷ 2 ∷ 0 ∷ 3 ∷ 0 ∷ 2 ∷ 0x0B ∷ 2 ∷ 1 ∷ 1 ∷ 0x0D ∷ 1 ∷ 0 ∷ [])

@@ -4,12 +4,16 @@ use native.Mathlib.Nat.{mul-le-mul_right}
 use native.Mathlib.Numerals.{add-one}
 use native.Mathlib.Omega.{arith}
 use mathlib.Core.Path.{◌≡◌, refl, sym, ap, ◌∙◌, subst}
-use mathlib.Core.Bool.{Bool, true, false}
+use mathlib.Core.Bool.{Bool, true, false, true≢false, false≢true}
 use mathlib.Core.List.{List, [], ◌∷◌, ◌++◌, append-nil}
 use borrow.Author.Tests.{le-leb, lt-leb, eqb-true}
 use lib.Dec.{eqb, leb}
 use lib.ListN.{length, get_or, take, drop, replicate}
 use lib.Seq.{drop-drop}
+use Rattle.std.specs.Prelude.{Result, Ok, Err, is_err}
+use Rattle.refusals.specs.declared.Refusal.{Refusal}
+use Rattle.refusals.proofs.Numbers.{number-positive}
+use Rattle.engine.specs.declared.Lookahead.{Lookahead}
 use Rattle.cfg.specs.Grammar.{Grammar, Accepted}
 use Rattle.cfg.proofs.Meaning.{TableRead, accepted}
 use Rattle.k_tuples.specs.Work.{Answer, got, refused}
@@ -18,16 +22,27 @@ use Rattle.k_tuples.proofs.Blocks.{stored-sets, stored-rest, is-stored}
 use Rattle.blocks.proofs.Stores.{zeros-are-stored}
 use Rattle.analysis.specs.Analysis.{Analysis, work, analyse, result_needs, scratch_needs}
 use Rattle.analysis.proofs.Kept.{answers-right, only-eleven}
-use Rattle.engine.specs.declared.Lookahead.{Lookahead}
-use Rattle.engine.specs.Call.{answer_of, sets_of, result_needed, scratch_needed, wiped, result_after, scratch_after, Left as Outcome, Promised as Analysed}
+use Rattle.engine.specs.Call.{Record as EngineRecord, record_of, answer_of, sets_of, result_needed, scratch_needed, wiped, result_after, scratch_after, Left as Outcome, Promised as Analysed}
 use Rattle.engine.proofs.Sets.{sets-kept}
 use Rattle.engine.proofs.Asked.{counted, sets-count}
 use Rattle.engine.proofs.Wiping.{wiped-beyond}
 use Rattle.decision_theory.specs.Needed.{grammar_for}
 use Rattle.decision_theory.specs.Steps.{is_open, standing}
+use Rattle.decision.specs.declared.Links.{Links}
 use Rattle.decision.specs.declared.Layout.{Layout}
 use Rattle.decision.specs.Steps.{held, past, Ready, Sized, grammar_of, OnTable, Given, SetsDone, Passing, Told, TriedAt, Beyond, KDone, StandAt, AllDone, Sought}
 use Rattle.decision.proofs.Trying.{passed-tried, sets-tried}
+
+-- ---- what the engine returns
+
+-- an error has a number, and an answer has 0
+pub engine-err : (r : Result Lookahead Refusal) → is_err r ≡ true → (record_of r).refusal ≡ 0 → ⊥
+engine-err (Ok a) e z = false≢true e
+engine-err (Err e) _ z = omega (arith, number-positive e)
+
+pub engine-ok : (r : Result Lookahead Refusal) → is_err r ≡ false → (record_of r).refusal ≡ 0
+engine-ok (Ok a) _ = refl
+engine-ok (Err e) q = absurd (true≢false q)
 
 -- ---- a table that was accepted
 
@@ -81,8 +96,8 @@ block-spare {c} {g} {u} s =
     let l : 1 * u.b ≤ (2 * u.n + 4) * u.b = mul-le-mul_right u.b one in
     subst (λ (m : ℕ). u.b ≤ m) (sized-spare s) (omega arith)
 
-module _ {limit c : ℕ} {table : List ℕ} {u : Layout} {links result scratch : List ℕ} (given : Given limit c table u links (length result) (length scratch)) {k : ℕ} (k>0 : 1 ≤ k) (k<11 : k ≤ 10)
-    {l : Lookahead} {result₁ scratch₁ : List ℕ} (call : Analysed k c table result scratch l result₁ scratch₁) where
+module _ {limit c : ℕ} {table : List ℕ} {u : Layout} {links : Links} {result scratch : List ℕ} (given : Given limit c table u links (length result) (length scratch)) {k : ℕ} (k>0 : 1 ≤ k) (k<11 : k ≤ 10)
+    {l : EngineRecord} {result₁ scratch₁ : List ℕ} (call : Analysed k c table result scratch l result₁ scratch₁) where
   abbrev g : Grammar
   g = grammar_of table
 
@@ -105,7 +120,7 @@ module _ {limit c : ℕ} {table : List ℕ} {u : Layout} {links result scratch :
           let q : e ≡ 11 = only-eleven g k c (table-ok given.on) k>0 given.on.c>0 e w in
           let late : leb e 10 ≡ false = lt-leb e 10 (omega arith) in
           (w ∙ ap refused q, (o.result_words ∙ rw late, o.scratch-words ∙ rw late))
-      by (got a) w o = absurd (n (ap (λ (x : Lookahead). x.refusal) o.answer))
+      by (got a) w o = absurd (n (ap (λ (x : EngineRecord). x.refusal) o.answer))
 
   pub engine-refused : (l.refusal ≡ 0 → ⊥) → {ρ ρ' : List ℕ} (κ : List ℕ) → Passing u.n ρ ρ' → KDone c g k ρ κ ρ' κ result scratch result₁ scratch₁
   engine-refused n κ p =
@@ -118,7 +133,7 @@ module _ {limit c : ℕ} {table : List ℕ} {u : Layout} {links result scratch :
   -- what the definition works out is not refused
   pub engine-works : (a : Analysis) → work k c g ≡ got a → l.refusal ≡ 0
   unfolding answer_of
-  engine-works a w = let o : Outcome (got a) k c N M result scratch l result₁ scratch₁ = rw w at outcome in ap (λ (x : Lookahead). x.refusal) o.answer
+  engine-works a w = let o : Outcome (got a) k c N M result scratch l result₁ scratch₁ = rw w at outcome in ap (λ (x : EngineRecord). x.refusal) o.answer
 
   -- it was not: the sets stand in the result, and the scratch is zero
   pub record Sets (a : Analysis) : Type 0 where
@@ -134,7 +149,7 @@ module _ {limit c : ℕ} {table : List ℕ} {u : Layout} {links result scratch :
       by : (m : Answer Analysis) → work k c g ≡ m → Outcome m k c N M result scratch l result₁ scratch₁ → (a : Analysis) × Sets a
       by (refused e) w o =
           let q : e ≡ 11 = only-eleven g k c (table-ok given.on) k>0 given.on.c>0 e w in
-          absurd (let n : l.refusal ≡ e = ap (λ (x : Lookahead). x.refusal) o.answer in omega arith)
+          absurd (let n : l.refusal ≡ e = ap (λ (x : EngineRecord). x.refusal) o.answer in omega arith)
       by (got a) w o =
           let is = answers-right g k c (table-ok given.on) k>0 given.on.c>0 a w in (
             a,
@@ -232,14 +247,14 @@ module _ (c : ℕ) (g : Grammar) where
   }
 
 -- the loop
-pub record Tries (limit c : ℕ) (table : List ℕ) (u : Layout) (links result₀ scratch₀ : List ℕ) (k : ℕ) (ρ κ result scratch : List ℕ) : Type 0 where
+pub record Tries (limit c : ℕ) (table : List ℕ) (u : Layout) (links : Links) (result₀ scratch₀ : List ℕ) (k : ℕ) (ρ κ result scratch : List ℕ) : Type 0 where
   pub below : k ≤ limit
   pub given : Given limit c table u links (length result) (length scratch)
   pub done : AllDone c (grammar_of table) k ρ κ result₀ scratch₀ result scratch
   pub result-long : length result ≡ length result₀
   pub scratch-long : length scratch ≡ length scratch₀
 
-pub tries-start : {limit c : ℕ} {table : List ℕ} {u : Layout} {links ρ κ : List ℕ} (result scratch : List ℕ) → Given limit c table u links (length result) (length scratch) → StandAt c (grammar_of table) 0 ρ κ
+pub tries-start : {limit c : ℕ} {table : List ℕ} {u : Layout} {links : Links} {ρ κ : List ℕ} (result scratch : List ℕ) → Given limit c table u links (length result) (length scratch) → StandAt c (grammar_of table) 0 ρ κ
     → Tries limit c table u links result scratch 0 ρ κ result scratch
 tries-start result scratch given s = record {
   below = omega arith;
@@ -249,13 +264,13 @@ tries-start result scratch given s = record {
   scratch-long = refl;
 }
 
-module _ {limit c : ℕ} {table : List ℕ} {u : Layout} {links result₀ scratch₀ : List ℕ} {k : ℕ} {ρ κ result scratch : List ℕ} (w : Tries limit c table u links result₀ scratch₀ k ρ κ result scratch) where
-  pub tries-more : {ρ' κ' result' scratch' : List ℕ} → k < limit → KDone c (grammar_of table) (k + 1) ρ κ ρ' κ' result scratch result' scratch' → length result' ≡ length result → length scratch' ≡ length scratch
-      → Tries limit c table u links result₀ scratch₀ (k + 1) ρ' κ' result' scratch'
-  tries-more {ρ'} {κ'} {result'} {scratch'} h d e f =
-      let next : k + 1 ≡ suc k = add-one k in
+module _ {limit c : ℕ} {table : List ℕ} {u : Layout} {links : Links} {result₀ scratch₀ : List ℕ} {k : ℕ} {ρ κ result scratch : List ℕ} (w : Tries limit c table u links result₀ scratch₀ k ρ κ result scratch) where
+  pub tries-more : {j : ℕ} {ρ' κ' result' scratch' : List ℕ} → j ≡ k + 1 → j ≤ limit → KDone c (grammar_of table) j ρ κ ρ' κ' result scratch result' scratch' → length result' ≡ length result → length scratch' ≡ length scratch
+      → Tries limit c table u links result₀ scratch₀ j ρ' κ' result' scratch'
+  tries-more {j} {ρ'} {κ'} {result'} {scratch'} is h d e f =
+      let next : j ≡ suc k = is ∙ add-one k in
       record {
-        below = omega arith;
+        below = h;
         given = rw (e, f) w.given;
         done = record {
           stand = rw next (stand-more c (grammar_of table) w.done.stand (rw next at d.tried));

@@ -14,6 +14,7 @@ use Rattle.k_tuples.specs.Held.{Holds}
 use Rattle.k_tuples.specs.Blocks.{sets_in, part_at}
 use Rattle.k_tuples.proofs.Blocks.{in-sets, part_room, part-holds}
 use Rattle.blocks.specs.Stores.{Sets}
+use Rattle.decision.specs.declared.Links.{Links}
 use Rattle.decision.specs.declared.Layout.{Layout}
 use Rattle.decision.specs.Own.{left_at, next_at, first_at, Linked}
 use Rattle.decision.specs.Steps.{Long, production_set, Says, ApartFrom, ApartBelow, Apart, DecidedTo, DecidedOne, Deciding}
@@ -40,7 +41,7 @@ below_next P j n before at after q h = by (dec_lt q j) (dec_lt j q)
 
 -- ---- one with those behind it
 
-module _ (u : Layout) (links : List ℕ) (R : State) where
+module _ (u : Layout) (links : Links) (R : State) where
   pub record Behind (i j : ℕ) : Type 0 where
     pub above : i + 1 ≤ j
     pub below : j ≤ u.p

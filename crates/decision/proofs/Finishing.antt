@@ -6,29 +6,31 @@ use mathlib.Core.Path.{◌≡◌, refl, sym, ap, ap₂, ◌∙◌}
 use mathlib.Core.List.{List, [], ◌∷◌, ◌++◌, map}
 use borrow.Author.Tests.{le-leb, lt-leb}
 use lib.ListN.{length, get_or, take, replicate}
+use Rattle.std.specs.Prelude.{Err}
+use Rattle.refusals.specs.Numbers.{number}
+use Rattle.refusals.specs.declared.Refusal.{Refusal}
 use Rattle.cfg.specs.Grammar.{Grammar}
 use Rattle.cfg.specs.Reading.{got as read, refused as unread}
 use Rattle.cfg.specs.Words.{Sound}
 use Rattle.cfg.specs.Written.{productions_of}
-use Rattle.cfg.specs.Table.{table_says}
 use Rattle.cfg.specs.Accept.{accept_table}
-use Rattle.cfg.specs.declared.table.TableAnswer.{TableAnswer}
+use Rattle.cfg.specs.declared.table.Table.{Table}
 use Rattle.cfg.proofs.Sizes.{accepted-sizes, length-productions}
 use Rattle.k_tuples.specs.Work.{Answer, got, refused}
 use Rattle.analysis.specs.Analysis.{result_needs, scratch_needs}
 use Rattle.analysis.proofs.Counts.{occurrences-count}
-use Rattle.engine.specs.declared.Shape.{Shape}
+use Rattle.cfg.specs.declared.table.Shape.{Shape}
 use Rattle.engine.specs.Call.{wiped}
-use Rattle.engine.specs.Steps.{grammar_in, Ready, table_refusal}
+use Rattle.engine.specs.Steps.{grammar_in, Ready}
 use Rattle.engine.proofs.Needed.{sound-128, productions-few}
 use Rattle.decision_theory.specs.Needed.{each_from, grammar_for, decide, only_k, needed_k, decisions, needed_ks}
 use Rattle.decision_theory.specs.Steps.{standing}
 use Rattle.decision_theory.proofs.Lists.{at_place}
 use Rattle.decision_theory.proofs.Call.{each-length, each_at}
 use Rattle.decision_theory.proofs.Steps.{standing-is}
-use Rattle.decision.specs.declared.Needed.{Needed}
+use Rattle.decision.specs.declared.Links.{Links}
 use Rattle.decision.specs.declared.Layout.{Layout}
-use Rattle.decision.specs.Call.{refusal_of, k_of, padded, record_of, words_after, Left, Promised}
+use Rattle.decision.specs.Call.{Record, refusal_of, k_of, padded, record_of, recorded, words_after, Left, Promised}
 use Rattle.decision.specs.Own.{SidesOf, AllLinked}
 use Rattle.decision.specs.Steps.{Sized, grammar_of, OnTable, Given, AllDone, AnsweredAll}
 use Rattle.decision.proofs.Padded.{padded-is}
@@ -36,7 +38,7 @@ use Rattle.decision.proofs.Answering.{table-ok, result-needed, scratch-needed, g
 
 -- ---- the buffers have the words that are wiped
 
-module _ {limit c : ℕ} {table : List ℕ} {u : Layout} {links : List ℕ} {result scratch : ℕ} (given : Given limit c table u links result scratch) where
+module _ {limit c : ℕ} {table : List ℕ} {u : Layout} {links : Links} {result scratch : ℕ} (given : Given limit c table u links result scratch) where
   pub given-result : u.sets * u.b ≤ result
   given-result = rw (sized-needs given.sized) given.result_words
 
@@ -99,13 +101,18 @@ module _ {limit : ℕ} (c : ℕ) (table : List ℕ) (result scratch : ℕ) (limi
   needed-refused e = rw (le-leb 1 limit limit>0, le-leb limit 10 limit<11, e)
 
 -- a refusal of the whole call leaves the words as they came
-untouched : {m : Answer (List (Answer ℕ))} {needed needed' r : ℕ} {x : Needed} (result scratch : List ℕ) → m ≡ refused r → x ≡ record_of (refused r) → Left m needed needed' result scratch x result scratch
+untouched : {m : Answer (List (Answer ℕ))} {needed needed' r : ℕ} {x : Record} (result scratch : List ℕ) → m ≡ refused r → x ≡ record_of (refused r) → Left m needed needed' result scratch x result scratch
 unfolding words_after
 untouched result scratch e a = rw e (record { answer = a; result_words = refl; scratch-words = refl })
 
+-- a refusal in the code is that of the definition
+pub refused-is : (e : Refusal) → recorded (Err e) ≡ record_of (refused (number e))
+unfolding record_of
+refused-is e = refl
+
 -- ---- the tests of the limit and of c
 
-module _ (limit c : ℕ) (table result scratch : List ℕ) {x : Needed} where
+module _ (limit c : ℕ) (table result scratch : List ℕ) {x : Record} where
   pub limit-low : limit < 1 → x ≡ record_of (refused 1) → Promised limit c table result scratch x result scratch
   unfolding needed_ks decisions
   limit-low h a = untouched result scratch (rw (lt-leb 1 limit h)) a
@@ -128,18 +135,18 @@ module _ (limit c : ℕ) (table result scratch : List ℕ) {x : Needed} where
 -- ---- the lent words
 
 module _ {limit c : ℕ} {table : List ℕ} (on : OnTable limit c table) {u : Layout} (sized : Sized c (grammar_of table) u) (result scratch : List ℕ) where
-  pub result-short : {x : Needed} → length result < u.sets * u.b → x ≡ record_of (refused 10) → Promised limit c table result scratch x result scratch
+  pub result-short : {x : Record} → length result < u.sets * u.b → x ≡ record_of (refused 10) → Promised limit c table result scratch x result scratch
   unfolding grammar_for
   result-short h a = untouched result scratch (needed-refused c table (length result) (length scratch) on.limit>0 on.limit<11
       (rw (le-leb 1 c on.c>0, le-leb c 1024 on.c<1025, on.reads, lt-leb (result_needs c (grammar_of table)) (length result) (rw (sized-needs sized) at h)))) a
 
   module _ (enough : u.sets * u.b ≤ length result) where
-    pub scratch-short : {x : Needed} → length scratch < (2 * u.n + 4) * u.b → x ≡ record_of (refused 10) → Promised limit c table result scratch x result scratch
+    pub scratch-short : {x : Record} → length scratch < (2 * u.n + 4) * u.b → x ≡ record_of (refused 10) → Promised limit c table result scratch x result scratch
     unfolding grammar_for
     scratch-short h a = untouched result scratch (needed-refused c table (length result) (length scratch) on.limit>0 on.limit<11
         (rw (le-leb 1 c on.c>0, le-leb c 1024 on.c<1025, on.reads, le-leb (result_needs c (grammar_of table)) (length result) (rw (sized-needs sized) at enough), lt-leb (scratch_needs c (grammar_of table)) (length scratch) (rw (sized-spare sized) at h)))) a
 
-    pub all-promised : {x : Needed} {result' scratch' : List ℕ} → (2 * u.n + 4) * u.b ≤ length scratch → AnsweredAll limit c (grammar_of table) result scratch x result' scratch' → Promised limit c table result scratch x result' scratch'
+    pub all-promised : {x : Record} {result' scratch' : List ℕ} → (2 * u.n + 4) * u.b ≤ length scratch → AnsweredAll limit c (grammar_of table) result scratch x result' scratch' → Promised limit c table result scratch x result' scratch'
     all-promised h l =
         rw (needed-got c table (length result) (length scratch) on.limit>0 on.limit<11 (grammar-for on (rw (sized-needs sized) at enough) (rw (sized-spare sized) at h)), result-needed on, scratch-needed on) l
 
@@ -163,7 +170,7 @@ module _ {limit c : ℕ} {table : List ℕ} (on : OnTable limit c table) {s : Sh
   pub spare-fits : (2 * u.n + 4) * u.b ≤ 532740
   spare-fits = mul-le-mul {n₁ = 2 * u.n + 4} {m₁ = u.b} {n₂ = 260} {m₂ = 2049} (omega (arith, sized.n, ready.sizes.nonterminals)) (omega (arith, sized.b, on.c<1025))
 
-  pub given-all : {links : List ℕ} {result scratch : ℕ} → AllLinked (productions_of u.p words) u.p links → u.sets * u.b ≤ result → (2 * u.n + 4) * u.b ≤ scratch → Given limit c table u links result scratch
+  pub given-all : {links : Links} {result scratch : ℕ} → AllLinked (productions_of u.p words) u.p links → u.sets * u.b ≤ result → (2 * u.n + 4) * u.b ≤ scratch → Given limit c table u links result scratch
   given-all {links} l enough spare =
       let sides' : SidesOf (grammar_of table).productions links = rw (same, ← p-is ready sized) l.sides in
       let g = grammar_of table in
@@ -187,32 +194,28 @@ module _ {limit c : ℕ} {table : List ℕ} (on : OnTable limit c table) {s : Sh
 
 -- ---- the table
 
-module _ (a : TableAnswer) (table words : List ℕ) (says : table_says a (length table) words ≡ accept_table table) where
-  pub table-refused : (limit c : ℕ) (result scratch : List ℕ) (r m : ℕ) {x : Needed} → 1 ≤ limit → limit ≤ 10 → 1 ≤ c → c ≤ 1024 → a ≡ TableAnswer.Refused r → m ≡ table_refusal a → x ≡ record_of (refused m)
-      → Promised limit c table result scratch x result scratch
-  unfolding grammar_for
-  table-refused limit c result scratch r m limit>0 limit<11 c>0 c<1025 e f h =
-      let s : unread r ≡ accept_table table = sym (ap (λ (b : TableAnswer). table_says b (length table) words) e) ∙ says in
-      let n : m ≡ r = f ∙ ap table_refusal e in
-      untouched result scratch (needed-refused c table (length result) (length scratch) limit>0 limit<11 (rw (le-leb 1 c c>0, le-leb c 1024 c<1025, ← s) (ap refused (sym n)))) h
+-- a table that is refused
+pub table-refused : {limit c : ℕ} (table result scratch : List ℕ) → (1 ≤ limit) × (limit ≤ 10) → (1 ≤ c) × (c ≤ 1024) → (e : Refusal) → unread (number e) ≡ accept_table table
+    → Promised limit c table result scratch (recorded (Err e)) result scratch
+unfolding grammar_for
+table-refused {limit} {c} table result scratch l h e s =
+    untouched result scratch (needed-refused c table (length result) (length scratch) l.0 l.1 (rw (le-leb 1 c h.0, le-leb c 1024 h.1, ← s) refl)) (refused-is e)
 
-  module _ {n t start p used : ℕ} (e : a ≡ TableAnswer.Table n t start p used) {end : ℕ} (f : end ≡ used) where
-    abbrev shape : Shape
-    shape = record { n = n; t = t; start = start; p = p }
+-- one that is accepted, whose words are cut off where they end
+module _ (table : List ℕ) (a : Table) (words : List ℕ) (says : read (grammar_in a.shape (take a.used words)) (length table) ≡ accept_table table) {end : ℕ} (f : end ≡ a.used) where
+  reads_as : accept_table table ≡ read (grammar_in a.shape (take end words)) (length table)
+  reads_as = sym (rw f says)
 
-    reads_as : accept_table table ≡ read (grammar_in shape (take end words)) (length table)
-    reads_as = rw f (sym (sym (ap (λ (b : TableAnswer). table_says b (length table) words) e) ∙ says))
+  pub table-grammar : grammar_of table ≡ grammar_in a.shape (take end words)
+  unfolding grammar_of
+  table-grammar = rw reads_as
 
-    pub table-grammar : grammar_of table ≡ grammar_in shape (take end words)
-    unfolding grammar_of
-    table-grammar = rw reads_as
-
-    pub on-table : (limit c : ℕ) → 1 ≤ limit → limit ≤ 10 → 1 ≤ c → c ≤ 1024 → OnTable limit c table
-    on-table limit c limit>0 limit<11 c>0 c<1025 = record {
-      next = length table;
-      reads = reads_as ∙ ap (λ (g : Grammar). read g (length table)) (sym table-grammar);
-      limit>0 = limit>0;
-      limit<11 = limit<11;
-      c>0 = c>0;
-      c<1025 = c<1025;
-    }
+  pub on-table : (limit c : ℕ) → 1 ≤ limit → limit ≤ 10 → 1 ≤ c → c ≤ 1024 → OnTable limit c table
+  on-table limit c limit>0 limit<11 c>0 c<1025 = record {
+    next = length table;
+    reads = reads_as ∙ ap (λ (g : Grammar). read g (length table)) (sym table-grammar);
+    limit>0 = limit>0;
+    limit<11 = limit<11;
+    c>0 = c>0;
+    c<1025 = c<1025;
+  }

@@ -7,6 +7,10 @@ use mathlib.Core.Logic.{◌⊎◌, inl, inr}
 use mathlib.Core.List.{List, ◌++◌, map}
 use lib.ListN.{length, get_or, drop, replicate, length-map, get_or-map}
 use lib.Dec.{eqb}
+use borrow.Author.Tests.{ne_eqb}
+use Rattle.refusals.specs.Numbers.{number}
+use Rattle.refusals.specs.declared.Refusal.{Refusal}
+use Rattle.refusals.proofs.Numbers.{number-positive}
 use Rattle.cfg.specs.Grammar.{Grammar}
 use Rattle.cfg.specs.Reading.{got as read}
 use Rattle.cfg.specs.Table.{read_table}
@@ -22,16 +26,16 @@ use Rattle.decision_theory.specs.Needed.{Reads, only_k, needed_k, decisions, nee
 use Rattle.decision_theory.specs.Automaton.{LowestRefused}
 use Rattle.decision_theory.proofs.Needed.{answered}
 use Rattle.decision_theory.proofs.Kept.{needed-answered}
+use Rattle.decision.specs.declared.Links.{Links}
 use Rattle.decision.specs.declared.Layout.{Layout}
-use Rattle.decision.specs.declared.Needed.{Needed}
-use Rattle.decision.specs.Call.{words_after, Promised}
+use Rattle.decision.specs.Call.{Record, words_after, Promised}
 use Rattle.decision.specs.Steps.{grammar_of, OnTable, Given}
 use Rattle.decision.specs.Onward.{first_refusal, Known, Prepared, Wiped}
 use Rattle.decision.proofs.Answering.{table-ok, sized-needs, sized-spare, result-needed, scratch-needed}
 use Rattle.decision.proofs.Going.{Reached, Onward, onward, buffers-wiped, refused-whole, refused-one, goes_on}
 
 -- buffers of the same lengths are given too
-pub regiven : {limit c : ℕ} {table : List ℕ} {u : Layout} {links : List ℕ} {m n m' n' : ℕ} → Given limit c table u links m n → m' ≡ m → n' ≡ n → Given limit c table u links m' n'
+pub regiven : {limit c : ℕ} {table : List ℕ} {u : Layout} {links : Links} {m n m' n' : ℕ} → Given limit c table u links m n → m' ≡ m → n' ≡ n → Given limit c table u links m' n'
 regiven given e f = rw (e, f) given
 
 -- a table that was accepted is read as its grammar
@@ -56,7 +60,7 @@ at-most-ten {limit} {c} {table} {ks} on known A h = by (needed_k c (grammar_of t
 -- ---- the buffers
 
 -- what is wiped is what the engine needs
-pub wiped-both : {limit c : ℕ} {table : List ℕ} {u : Layout} {links : List ℕ} {m s : ℕ} {result scratch result' scratch' : List ℕ} → Given limit c table u links m s
+pub wiped-both : {limit c : ℕ} {table : List ℕ} {u : Layout} {links : Links} {m s : ℕ} {result scratch result' scratch' : List ℕ} → Given limit c table u links m s
     → result' ≡ wiped (u.sets * u.b) result → scratch' ≡ wiped ((2 * u.n + 4) * u.b) scratch → Wiped c (grammar_of table) result scratch result' scratch'
 wiped-both {result = result} {scratch = scratch} given e f = record {
   result_words = e ∙ ap (λ (m : ℕ). wiped m result) (sized-needs given.sized);
@@ -69,7 +73,12 @@ wiped-on N ws ws₁ b e = e ∙ ap (λ (l : List ℕ). replicate N 0 ++ l) b
 
 -- ---- how the call goes on
 
-module _ (limit c : ℕ) (table result scratch result₁ scratch₁ : List ℕ) (d : Needed) (answers : Promised limit c table result scratch d result₁ scratch₁) {x : ℕ} (first : x ≡ first_refusal d.refusal d.refusals) where
+-- a refusal of the whole call is the first
+pub first-of-call : (e : Refusal) (each : List ℕ) → number e ≡ first_refusal (number e) each
+unfolding first_refusal
+first-of-call e each = rw (ne_eqb (number e) 0 (λ (z : number e ≡ 0). omega (arith, number-positive e)))
+
+module _ (limit c : ℕ) (table result scratch result₁ scratch₁ : List ℕ) (d : Record) (answers : Promised limit c table result scratch d result₁ scratch₁) {x : ℕ} (first : x ≡ first_refusal d.refusal d.refusals) where
   -- by the first refusal
   pub how : Onward limit c table (length result) (length scratch) d.ks x
   how = subst (Onward limit c table (length result) (length scratch) d.ks) (sym first) (onward limit c table result scratch d answers)
@@ -94,7 +103,7 @@ module _ (limit c : ℕ) (table result scratch result₁ scratch₁ : List ℕ) 
         by (goes_on w q k) = w
 
     -- and the buffers are given with the plan
-    pub call-given : {u : Layout} {links : List ℕ} → Prepared limit c table u links → length result₁ ≡ length result → length scratch₁ ≡ length scratch → Given limit c table u links (length result₁) (length scratch₁)
+    pub call-given : {u : Layout} {links : Links} → Prepared limit c table u links → length result₁ ≡ length result → length scratch₁ ≡ length scratch → Given limit c table u links (length result₁) (length scratch₁)
     call-given p e f = rw (e, f) (p.given (length result) (length scratch) call-reached.result_words call-reached.scratch-words)
 
     -- buffers that were wiped again are as after the answers

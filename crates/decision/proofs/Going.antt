@@ -20,8 +20,7 @@ use Rattle.engine.specs.Call.{wiped}
 use Rattle.decision_theory.specs.Needed.{Decided, decide, needed_k, only_k, each_from, grammar_for, decisions, needed_ks, Answered, one-production, serves, passed_on, own-set, none-serves}
 use Rattle.decision_theory.proofs.Needed.{answered}
 use Rattle.decision_theory.proofs.Call.{each-length, each_at, Tests, tests, refuses, reads_as}
-use Rattle.decision.specs.declared.Needed.{Needed}
-use Rattle.decision.specs.Call.{refusal_of, k_of, padded, record_of, words_after, Promised}
+use Rattle.decision.specs.Call.{Record, refusal_of, k_of, padded, record_of, words_after, Promised}
 use Rattle.decision.specs.Steps.{Long, grammar_of, OnTable}
 use Rattle.decision.specs.Onward.{first_of, first_refusal, Known}
 use Rattle.decision.proofs.Padded.{padded-at}
@@ -196,7 +195,7 @@ pub data Onward (limit c : ℕ) (table : List ℕ) (result scratch : ℕ) (ks : 
       → ((B : ℕ) → B < A → (e : Decided) × (get_or (answers_of limit c table) B (refused 0) ≡ got e)) → Onward limit c table result scratch ks x
   goes_on : Reached limit c table result scratch → x ≡ 0 → Known limit c (grammar_of table) ks → Onward limit c table result scratch ks x
 
-module _ (limit c : ℕ) (table result scratch : List ℕ) (d : Needed) {R S : List ℕ} (p : Promised limit c table result scratch d R S) where
+module _ (limit c : ℕ) (table result scratch : List ℕ) (d : Record) {R S : List ℕ} (p : Promised limit c table result scratch d R S) where
   abbrev called : Answer (List (Answer Decided))
   called = decisions limit c table (length result) (length scratch)
 
@@ -209,12 +208,12 @@ module _ (limit c : ℕ) (table result scratch : List ℕ) (d : Needed) {R S : L
   lists-long = by called refl p.answer
     where
       by : (m : Answer (List (Answer Decided))) → called ≡ m → d ≡ record_of (m >>= λ ds. got (map only_k ds)) → Long d.refusals × Long d.ks
-      by (refused r) q e = (ap (λ (y : Needed). length y.refusals) e ∙ length-replicate {A = ℕ} 128 0, ap (λ (y : Needed). length y.ks) e ∙ length-replicate {A = ℕ} 128 0)
+      by (refused r) q e = (ap (λ (y : Record). length y.refusals) e ∙ length-replicate {A = ℕ} 128 0, ap (λ (y : Record). length y.ks) e ∙ length-replicate {A = ℕ} 128 0)
       by (got ms) q e =
           let w = reached limit c table (length result) (length scratch) ms q in
           let same : ms ≡ answers_of limit c table = got-inj (sym q ∙ w.called) in
           let f : d ≡ record_of (got (map only_k (answers_of limit c table))) = rw (← same) e in
-          (ap (λ (y : Needed). length y.refusals) f ∙ padded-long w.on refusal_of, ap (λ (y : Needed). length y.ks) f ∙ padded-long w.on k_of)
+          (ap (λ (y : Record). length y.refusals) f ∙ padded-long w.on refusal_of, ap (λ (y : Record). length y.ks) f ∙ padded-long w.on k_of)
 
   -- what the first refusal in the record tells
   pub onward : On (first_refusal d.refusal d.refusals)
@@ -224,14 +223,14 @@ module _ (limit c : ℕ) (table result scratch : List ℕ) (d : Needed) {R S : L
       by : (m : Answer (List (Answer Decided))) → called ≡ m → d ≡ record_of (m >>= λ ds. got (map only_k ds)) → On (first_refusal d.refusal d.refusals)
       by (refused r) q e =
           let n = call-some limit c table (length result) (length scratch) r q in
-          let same : first_refusal d.refusal d.refusals ≡ r = ap (λ (y : Needed). first_refusal y.refusal y.refusals) e ∙ rw (ne_eqb r 0 n) in
+          let same : first_refusal d.refusal d.refusals ≡ r = ap (λ (y : Record). first_refusal y.refusal y.refusals) e ∙ rw (ne_eqb r 0 n) in
           subst On (sym same) (refused-whole n q)
       by (got ms) q e =
           let w = reached limit c table (length result) (length scratch) ms q in
           let same : ms ≡ answers_of limit c table = got-inj (sym q ∙ w.called) in
           let f : d ≡ record_of (got (map only_k (answers_of limit c table))) = rw (← same) e in
-          let first : first_refusal d.refusal d.refusals ≡ first_of (padded (map refusal_of (map only_k (answers_of limit c table)))) = ap (λ (y : Needed). first_refusal y.refusal y.refusals) f in
-          subst On (sym first) (on w (ap (λ (y : Needed). y.ks) f) (first-answer w.on))
+          let first : first_refusal d.refusal d.refusals ≡ first_of (padded (map refusal_of (map only_k (answers_of limit c table)))) = ap (λ (y : Record). first_refusal y.refusal y.refusals) f in
+          subst On (sym first) (on w (ap (λ (y : Record). y.ks) f) (first-answer w.on))
         where
           on : {x : ℕ} → Reached limit c table (length result) (length scratch) → d.ks ≡ padded (map k_of (map only_k (answers_of limit c table))) → FirstIn (answers_of limit c table) x → On x
           on w k (none z all) = goes_on w z (subst (Known limit c (grammar_of table)) (sym k) (all_known w.on all))

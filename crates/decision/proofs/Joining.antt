@@ -2,24 +2,27 @@
 use Prim.Native.Nat.{ℕ, ◌+◌, ◌*◌, ◌≤◌, ◌<◌}
 use native.Mathlib.Omega.{arith}
 use mathlib.Core.Path.{◌≡◌, refl, sym, ap, ap₂, ◌∙◌, subst}
-use mathlib.Core.Bool.{Bool, true, false, true≢false, false≢true}
+use mathlib.Core.Bool.{Bool, true, false}
 use mathlib.Core.List.{List, []}
 use borrow.Author.Count.{below_more}
 use borrow.Author.Tests.{ltb-true, ltb-false, eqb-true, eqb-false}
 use lib.Dec.{ltb, eqb}
 use lib.ListN.{length, get_or, set, drop, replicate, replicate-append-replicate, length-set}
 use lib.Seq.{get_or-set_same, get_or-set_other}
+use Rattle.std.specs.Prelude.{Result, Ok, Err}
+use Rattle.refusals.specs.declared.Refusal.{Refusal}
+use Rattle.refusals.specs.declared.Refusal.TheVariants.{SetTooLarge}
 use Rattle.k_tuple.specs.Strings.{Str}
 use Rattle.k_tuples.specs.Sets.{join_sets}
 use Rattle.k_tuples.specs.States.{State, set_of}
-use Rattle.k_tuples.specs.Words.{is_full}
+use Rattle.k_tuples.specs.Words.{Growth, is_full}
 use Rattle.k_tuples.specs.Held.{Holds}
 use Rattle.k_tuples.specs.Blocks.{sets_in, IsStored, part_at}
-use Rattle.k_tuples.specs.declared.set.Grown.{Grown}
 use Rattle.k_tuples.proofs.Blocks.{in-sets, length-sets, kept_at, part_room, part-holds, stored-length}
 use Rattle.k_tuples.proofs.Filling.{full-grown}
 use Rattle.blocks.specs.Stores.{Turned, Filled, Both, Joined, CopiedBlock}
 use Rattle.blocks.proofs.Stores.{turned-store, turned-sets, turned-beyond, filled-turned, zeros-are-stored, same-long}
+use Rattle.decision.specs.declared.Links.{Links}
 use Rattle.decision.specs.declared.Layout.{Layout}
 use Rattle.decision.specs.Own.{left_at}
 use Rattle.decision.specs.Steps.{Fit, held, room, joined_of, Ready, Taken, OneJoined, JoinedOne, JoinedTo, Joining, JoinedAll}
@@ -37,7 +40,7 @@ module _ {u : Layout} {k : ℕ} {result work : List ℕ} (ready : Ready u k resu
     abbrev product : List Str
     product = join_sets k (set_of (held u result) at) (set_of (held u result) from)
 
-    module _ {r : Grown} {work₁ : List ℕ} (j : Joined k u.b 1 0 r (part_at u.b at result) (part_at u.b from result) work work₁) where
+    module _ {r : Growth} {work₁ : List ℕ} (j : Joined k u.b 1 0 r (part_at u.b at result) (part_at u.b from result) work work₁) where
       filled : Filled k ready.width u.b 1 0 0 product r work work₁
       filled = j.step ready.width (set_of (held u result) at) (set_of (held u result) from) ready.work-store (block-holds at h) (block-holds from l)
 
@@ -45,7 +48,7 @@ module _ {u : Layout} {k : ℕ} {result work : List ℕ} (ready : Ready u k resu
       told b e = sym (full-grown (room u) 0 (length product)) ∙ ap is_full (sym filled.answer) ∙ e
 
       module _ (e : is_full r ≡ true) where
-        pub take-over : {work₂ : List ℕ} → length work₁ ≡ length work → work₂ ≡ replicate (length work₁) 0 → Taken u k at from true result work result work₂
+        pub take-over : {work₂ : List ℕ} → length work₁ ≡ length work → work₂ ≡ replicate (length work₁) 0 → Taken u k at from (Err SetTooLarge) result work result work₂
         take-over {work₂} same z =
             let some = (kept_at (sets_in u.b 1 work) 0 ready.work-store.stored.kept (in-sets ready.work-store (omega arith))).room in
             let one : length work ≡ 1 * u.b + length (drop (1 * u.b) work) = rw (length-sets u.b 1 work) at (stored-length ready.work-store.stored) in
@@ -60,8 +63,8 @@ module _ {u : Layout} {k : ℕ} {result work : List ℕ} (ready : Ready u k resu
                 most = ready.most;
               };
               keeps = λ w s t. (s, cleared w);
-              over = λ _. (ltb-true _ _ (told true e), refl);
-              done = λ n. absurd (true≢false n);
+              over = λ f q. (cc, ltb-true _ _ (told true e), refl);
+              done = λ x q. absurd (cc);
               beyond = refl;
             }
 
@@ -75,7 +78,7 @@ module _ {u : Layout} {k : ℕ} {result work : List ℕ} (ready : Ready u k resu
         there : set_of (sets_in u.b 1 work₁) 0 ≡ product
         there = ap (λ (F : State). set_of F 0) (turned-sets turned) ∙ get_or-set_same (sets_in u.b 1 work) 0 product [] (in-sets ready.work-store (omega arith))
 
-        pub take_done : {result' : List ℕ} → CopiedBlock u.b u.sets 1 0 at work₁ result result' → Taken u k at from false result work result' work₁
+        pub take_done : {result' : List ℕ} → CopiedBlock u.b u.sets 1 0 at work₁ result result' → Taken u k at from (Ok tt) result work result' work₁
         take_done {result'} c =
             let copied : Turned k ready.width u.b u.sets (set (held u result) at product) result result' =
             rw there at (c.step k ready.width ready.result-store (turned-store turned)) in
@@ -85,14 +88,14 @@ module _ {u : Layout} {k : ℕ} {result work : List ℕ} (ready : Ready u k resu
                   let filled_at : Filled k w u.b 1 0 0 product r work work₁ = j.step w (set_of (held u result) at) (set_of (held u result) from) t (part-holds s.stored at (in-sets s h)) (part-holds s.stored from (in-sets s l)) in
                   let second = turned-store (filled-turned filled_at e) in
                   (turned-store (c.step k w s second), second);
-              over = λ n. absurd (false≢true n);
-              done = λ _. (ltb-false _ _ (told false e), turned-sets copied);
+              over = λ f q. absurd (cc);
+              done = λ x q. (ltb-false _ _ (told false e), turned-sets copied);
               beyond = turned-beyond copied;
             }
 
 -- ---- one production after the other
 
-module _ (u : Layout) (links : List ℕ) (k : ℕ) where
+module _ (u : Layout) (links : Links) (k : ℕ) where
   -- the loop
   pub record Joins (i : ℕ) (result₀ work₀ ρ₀ result work ρ : List ℕ) : Type 0 where
     pub below : i ≤ u.p
@@ -115,7 +118,7 @@ module _ (u : Layout) (links : List ℕ) (k : ℕ) where
       by r true e = JoinedTo.fits (eqb-true r 22 e) (eqb-true r 22 e) (λ j l. absurd (omega arith))
       by r false e = JoinedTo.closed (eqb-false r 22 e) refl
 
-module _ (u : Layout) (links : List ℕ) (k : ℕ) (fit : Fit u links) where
+module _ (u : Layout) (links : Links) (k : ℕ) (fit : Fit u links) where
   module _ {i : ℕ} {R R₁ : State} {ρ ρ₁ : List ℕ} (w : Joining u links k i R R₁ ρ ρ₁) (h : i < u.p) where
     -- what waits is joined as at entry
     same-joined : joined_of u links k R₁ i ≡ joined_of u links k R i
@@ -204,23 +207,23 @@ module _ (u : Layout) (links : List ℕ) (k : ℕ) (fit : Fit u links) where
 
 -- ---- one production, by its ways out
 
-module _ {u : Layout} {links : List ℕ} {k i : ℕ} {a : ℕ} (here : a ≡ left_at links i) {ρ result : List ℕ} where
+module _ {u : Layout} {links : Links} {k i : ℕ} {a : ℕ} (here : a ≡ left_at links i) {ρ result : List ℕ} where
   pub one-skipped : {work : List ℕ} → Ready u k result work → (get_or ρ a 0 ≡ 22 → ⊥) → JoinedOne u links k i ρ ρ result work result work
   one-skipped ready n = record { ready = ready; keeps = λ w s t. (s, t); case = OneJoined.skipped (λ e. n (rw here e)) refl refl; beyond = refl }
 
-  module _ (o : get_or ρ a 0 ≡ 22) {full : Bool} {work result' work' : List ℕ} (t : Taken u k (u.n + i) (u.n + u.p + a) full result work result' work') where
-    pub one-over : full ≡ true → JoinedOne u links k i ρ (set ρ a 11) result work result' work'
-    one-over e = record {
+  module _ (o : get_or ρ a 0 ≡ 22) {r : Result (Unit {0}) Refusal} {work result' work' : List ℕ} (t : Taken u k (u.n + i) (u.n + u.p + a) r result work result' work') where
+    pub one-over : (e : Refusal) → r ≡ Err e → JoinedOne u links k i ρ (set ρ a 11) result work result' work'
+    one-over e q = record {
       ready = t.ready;
       keeps = t.keeps;
-      case = OneJoined.over (rw here at o) (rw here at (t.over e).0) (t.over e).1 (rw here);
+      case = OneJoined.over (rw here at o) (rw here at (t.over e q).1) (t.over e q).2 (rw here);
       beyond = t.beyond;
     }
 
-    pub one_kept : full ≡ false → JoinedOne u links k i ρ ρ result work result' work'
-    one_kept e = record {
+    pub one_kept : (x : Unit {0}) → r ≡ Ok x → JoinedOne u links k i ρ ρ result work result' work'
+    one_kept x q = record {
       ready = t.ready;
       keeps = t.keeps;
-      case = OneJoined.kept (rw here at o) (rw here at (t.done e).0) (rw here at (t.done e).1) refl;
+      case = OneJoined.kept (rw here at o) (rw here at (t.done x q).0) (rw here at (t.done x q).1) refl;
       beyond = t.beyond;
     }

@@ -13,8 +13,7 @@ use Rattle.engine.specs.Call.{result_needed, scratch_needed}
 use Rattle.decision_theory.specs.Needed.{needed_ks, OneProduction, Needs, WorkedOut, NoneBelow, NotWorkedOut, Answered, one-production, serves, passed_on, own-set, none-serves, CallAnswered}
 use Rattle.decision_theory.proofs.Needed.{answered-one}
 use Rattle.decision_theory.proofs.Kept.{needed-answered, needed-one}
-use Rattle.decision.specs.declared.Needed.{Needed}
-use Rattle.decision.specs.Call.{refusal_of, k_of, record_of, words_after, Left, Promised}
+use Rattle.decision.specs.Call.{Record, refusal_of, k_of, record_of, words_after, Left, Promised}
 use Rattle.decision.specs.Promises.{CallOne, CallAnswers, LimitExactly, AsEngineExactly, RefusedUntouched, NotRefused, AnsweredEach, Told, ToldRight}
 use Rattle.decision.proofs.Padded.{padded-at, padded-behind}
 
@@ -31,11 +30,11 @@ call-answers limit c table result scratch r R S p = record {
 -- ---- refusals of the whole call
 
 -- the number of a refusal is in the record
-number_of : (r : Needed) {m : Answer (List (Answer ℕ))} {x : ℕ} → r ≡ record_of m → m ≡ refused x → r.refusal ≡ x
+number_of : (r : Record) {m : Answer (List (Answer ℕ))} {x : ℕ} → r ≡ record_of m → m ≡ refused x → r.refusal ≡ x
 unfolding record_of
-number_of r e f = ap (λ (y : Needed). y.refusal) (e ∙ ap record_of f)
+number_of r e f = ap (λ (y : Record). y.refusal) (e ∙ ap record_of f)
 
-module _ (limit c : ℕ) (table result scratch : List ℕ) (r : Needed) (R S : List ℕ) (p : Promised limit c table result scratch r R S) where
+module _ (limit c : ℕ) (table result scratch : List ℕ) (r : Record) (R S : List ℕ) (p : Promised limit c table result scratch r R S) where
   -- an answer that the rules give is in the record
   given : {x : ℕ} → CallAnswered limit c table (length result) (length scratch) (refused x) → r.refusal ≡ x
   given a = number_of r p.answer (sym (needed-one limit c table (length result) (length scratch) (refused _) a))
@@ -53,7 +52,7 @@ module _ (limit c : ℕ) (table result scratch : List ℕ) (r : Needed) (R S : L
       by : (m : Answer (List (Answer ℕ))) → r ≡ record_of m → CallAnswered limit c table (length result) (length scratch) m → Way
       by m e (CallAnswered.bad-limit n) = by-limit n (number_of r e refl)
       by m e (CallAnswered.as-engine {r = x} h b f) = by-engine x h b f (number_of r e refl)
-      by m e (CallAnswered.each-answered h hc reads ok words size each) = by-none h (ap (λ (y : Needed). y.refusal) e)
+      by m e (CallAnswered.each-answered h hc reads ok words size each) = by-none h (ap (λ (y : Record). y.refusal) e)
 
 pub limit-exactly : LimitExactly
 limit-exactly limit c table result scratch r R S p = (λ e. by e (way limit c table result scratch r R S p), λ n. given limit c table result scratch r R S p (CallAnswered.bad-limit n))
@@ -80,11 +79,11 @@ refused-untouched limit c table result scratch r R S p n = by (needed_ks limit c
         → Between 1 10 r.refusal × (r.n ≡ 0) × (R ≡ result) × (S ≡ scratch)
     by m l (CallAnswered.bad-limit h) =
         let e = number_of r l.answer refl in
-        ((omega (arith, e), omega (arith, e)), ap (λ (x : Needed). x.n) l.answer, l.result_words, l.scratch-words)
+        ((omega (arith, e), omega (arith, e)), ap (λ (x : Record). x.n) l.answer, l.result_words, l.scratch-words)
     by m l (CallAnswered.as-engine h b e) =
         let f = number_of r l.answer refl in
-        ((omega (arith, b.0, f), omega (arith, b.1, f)), ap (λ (x : Needed). x.n) l.answer, l.result_words, l.scratch-words)
-    by m l (CallAnswered.each-answered h hc reads ok words size each) = absurd (n (ap (λ (x : Needed). x.refusal) l.answer))
+        ((omega (arith, b.0, f), omega (arith, b.1, f)), ap (λ (x : Record). x.n) l.answer, l.result_words, l.scratch-words)
+    by m l (CallAnswered.each-answered h hc reads ok words size each) = absurd (n (ap (λ (x : Record). x.refusal) l.answer))
 
 -- ---- the nonterminals
 
@@ -100,13 +99,13 @@ not-refused limit c table result scratch r R S p z = by (needed_ks limit c table
     by m l (CallAnswered.bad-limit h) = absurd (no (omega arith) l.answer)
     by m l (CallAnswered.as-engine h b e) = absurd (no (omega (arith, b.0)) l.answer)
     by m l (CallAnswered.each-answered {g = g} {ks = ks} h hc reads ok words size each) =
-        let refusals-are : (A : ℕ) → get_or r.refusals A 0 ≡ _ = λ A. ap (λ (x : Needed). get_or x.refusals A 0) l.answer in
-        let ks-are : (A : ℕ) → get_or r.ks A 0 ≡ _ = λ A. ap (λ (x : Needed). get_or x.ks A 0) l.answer in
+        let refusals-are : (A : ℕ) → get_or r.refusals A 0 ≡ _ = λ A. ap (λ (x : Record). get_or x.refusals A 0) l.answer in
+        let ks-are : (A : ℕ) → get_or r.ks A 0 ≡ _ = λ A. ap (λ (x : Record). get_or x.ks A 0) l.answer in
         record {
           g = g;
           reads = reads;
           accepted = ok;
-          n = ap (λ (x : Needed). x.n) l.answer ∙ size;
+          n = ap (λ (x : Record). x.n) l.answer ∙ size;
           each = λ A a. record {
             answer = get_or ks A (refused 0);
             refusal = refusals-are A ∙ padded-at refusal_of refl ks A (omega arith);

@@ -1,4 +1,5 @@
 pub mod Marks
+pub mod Numbers
 pub mod Padded
 pub mod Apart
 pub mod Joining
@@ -11,3 +12,4 @@ pub mod Onward
 pub mod Going
 pub mod Further
 pub mod Kept
+pub mod Known

@@ -7,31 +7,37 @@ use mathlib.Core.Path.{◌≡◌, refl, sym, ap, ◌∙◌, subst}
 use mathlib.Core.Bool.{Bool, true, false, cond}
 use mathlib.Core.List.{List, [], ◌∷◌, ◌++◌}
 use borrow.Author.Count.{below_more}
-use borrow.Author.Tests.{eqb-true, eqb-false, eq-eqb, ne_eqb}
+use borrow.Author.Tests.{eqb-true, eqb-false, ne_eqb}
 use lib.Dec.{eqb}
 use lib.ListN.{length, get_or, take, drop, set, replicate, length-set, length-replicate, drop_of_length-le}
-use lib.Seq.{drop-cons, drop_at, length-take-le, get_or-set_same, get_or-set_other}
+use lib.Seq.{take-suc, take-suc-set, drop-cons, drop_at, length-take-le, get_or-set_same, get_or-set_other}
+use Rattle.std.specs.Prelude.{Result, Ok, Err}
+use Rattle.std.proofs.lemmas.List.{map-append, take_all}
+use Rattle.refusals.specs.Numbers.{number}
+use Rattle.refusals.specs.declared.Refusal.{Refusal}
+use Rattle.refusals.proofs.Numbers.{number-positive}
 use Rattle.cfg.specs.Grammar.{Grammar}
-use Rattle.cfg.specs.Reading.{got as read, refused as unread}
+use Rattle.cfg.specs.Reading.{got as read}
 use Rattle.cfg.specs.Accept.{accept_table}
-use Rattle.cfg.specs.Table.{table_says, TableSound}
+use Rattle.cfg.specs.Table.{GrammarSound}
 use Rattle.cfg.specs.Written.{productions_of}
-use Rattle.cfg.specs.declared.table.TableAnswer.{TableAnswer}
+use Rattle.cfg.specs.declared.table.Table.{Table}
 use Rattle.k_tuple.specs.Strings.{width_of}
 use Rattle.k_tuples.specs.Blocks.{IsStored}
 use Rattle.k_tuples.specs.Work.{Answer, got, refused, ◌>>=◌}
 use Rattle.k_tuples.proofs.Work.{not-got, got-inj}
 use Rattle.analysis.specs.Analysis.{Analysis, work}
 use Rattle.analysis.proofs.Kept.{answers-right}
-use Rattle.engine.specs.declared.Lookahead.{Lookahead}
 use Rattle.engine.specs.Steps.{grammar_in, Ready}
 use Rattle.engine.proofs.Tables.{read-ready}
-use Rattle.engine.specs.Call.{Promised as Analysed}
+use Rattle.engine.specs.Call.{Record as EngineRecord, Promised as Analysed}
 use Rattle.decision_theory.specs.Needed.{Choice, Decided, own, choices_of, apart, choices_at, try_from, decide_for, decide, needed_k, only_k}
+use Rattle.decision.specs.declared.Links.{Links}
 use Rattle.decision.specs.declared.Layout.{Layout}
 use Rattle.decision.specs.Own.{AllLinked}
 use Rattle.decision.specs.Steps.{held, Ready as KReady, Sized, grammar_of, OnTable, Given, JoinedAll, Sought}
-use Rattle.decision.specs.Onward.{first_of, first_refusal, Known, Prepared, Marked, KJoined}
+use Rattle.decision.specs.Call.{refusal_in, k_in, refusals_in, ks_in}
+use Rattle.decision.specs.Onward.{first_of, first_refusal, AllKs, Known, Prepared, Marked, KJoined}
 use Rattle.decision.proofs.Padded.{zeros-at}
 use Rattle.decision.proofs.Trying.{choices-in-place}
 use Rattle.decision.proofs.Answering.{table-ok, sized-needs, sized-spare, sets-stand, engine-works, engine-result, engine-work, engine-ready, engine-block, engine-held, engine-beyond}
@@ -39,60 +45,67 @@ use Rattle.decision.proofs.Finishing.{table-grammar, sized-table, given-all}
 
 -- ---- the first refusal
 
-pub record Looks (each : List ℕ) (a : ℕ) : Type 0 where
+pub record Looks (xs : List (Result ℕ Refusal)) (ks : List ℕ) (a : ℕ) : Type 0 where
   pub below : a ≤ 128
-  pub rest : first_of (drop a each) ≡ first_of each
+  pub rest : first_of (refusals_in (drop a xs)) ≡ first_of (refusals_in xs)
+  pub long : length ks ≡ 128
+  pub told : take a ks ≡ ks_in (take a xs)
 
 -- nothing was looked at
-pub looks-start : (each : List ℕ) → Looks each 0
-looks-start each = record { below = omega arith; rest = refl }
+pub looks-start : (xs : List (Result ℕ Refusal)) → Looks xs (replicate 128 0) 0
+looks-start xs = record { below = omega arith; rest = refl; long = length-replicate {A = ℕ} 128 0; told = refl }
 
--- the refusal of the whole call is the first
-pub first-whole : (whole : ℕ) (each : List ℕ) → (whole ≡ 0 → ⊥) → whole ≡ first_refusal whole each
-unfolding first_refusal
-first-whole whole each n = rw (ne_eqb whole 0 n)
-
-module _ {each : List ℕ} {a : ℕ} (l : Looks each a) (long : length each ≡ 128) where
+module _ {xs : List (Result ℕ Refusal)} {ks : List ℕ} {a : ℕ} (l : Looks xs ks a) (long : length xs ≡ 128) (h : a < 128) where
   -- the numbers from a on
-  from-here : a < 128 → first_of each ≡ cond (eqb (get_or each a 0) 0) (first_of (drop (suc a) each)) (get_or each a 0)
+  from-here : first_of (refusals_in xs) ≡ cond (eqb (refusal_in (get_or xs a (Ok 0))) 0) (first_of (refusals_in (drop (suc a) xs))) (refusal_in (get_or xs a (Ok 0)))
   unfolding first_of
-  from-here h = sym l.rest ∙ ap first_of (drop-cons each a 0 (omega arith))
+  from-here = sym l.rest ∙ ap (λ (ys : List (Result ℕ Refusal)). first_of (refusals_in ys)) (drop-cons xs a (Ok 0) (omega arith))
 
-  -- a 0 is passed
-  pub looks-more : a < 128 → get_or each a 0 ≡ 0 → Looks each (a + 1)
-  looks-more h e = record { below = omega arith; rest = ap (λ (i : ℕ). first_of (drop i each)) (add-one a) ∙ sym (from-here h ∙ rw (eq-eqb (get_or each a 0) 0 e)) }
+  -- a k is taken over
+  pub looks-more : (k : ℕ) → get_or xs a (Ok 0) ≡ Ok k → Looks xs (set ks a k) (a + 1)
+  looks-more k e = record {
+    below = omega arith;
+    rest = ap (λ (i : ℕ). first_of (refusals_in (drop i xs))) (add-one a) ∙ sym (from-here ∙ rw e);
+    long = length-set ks a k ∙ l.long;
+    told = rw (add-one a) (take-suc-set ks a k (omega (arith, l.long)) ∙ ap (λ (ys : List ℕ). ys ++ k ∷ []) l.told ∙ sym (ap ks_in (take-suc xs a (Ok 0) (omega arith)) ∙ map-append k_in (take a xs) _ ∙ rw e));
+  }
 
-  -- the first other number is found
-  pub looks-found : a < 128 → (whole : ℕ) → whole ≡ 0 → (get_or each a 0 ≡ 0 → ⊥) → get_or each a 0 ≡ first_refusal whole each
+  -- the first refusal is found
+  pub looks-found : (e : Refusal) → get_or xs a (Ok 0) ≡ Err e → AllKs xs (Err e)
   unfolding first_refusal
-  looks-found h whole z n = sym (rw (eq-eqb whole 0 z) (from-here h ∙ rw (ne_eqb (get_or each a 0) 0 n)))
+  looks-found e is = record { known = λ ks q. absurd (cc); lacks = λ f q. sym (from-here ∙ rw is (by e f cc)) }
+    where
+      by : (e f : Refusal) → e ≡ f → cond (eqb (number e) 0) (first_of (refusals_in (drop (suc a) xs))) (number e) ≡ number f
+      by e f q = rw (← q) (rw (ne_eqb (number e) 0 (λ (z : number e ≡ 0). omega (arith, number-positive e))))
 
-  -- all are 0
-  pub looks-end : 128 ≤ a → (whole : ℕ) → whole ≡ 0 → 0 ≡ first_refusal whole each
-  unfolding first_refusal first_of
-  looks-end h whole z = let past_all : length each ≤ a = omega arith in rw (eq-eqb whole 0 z) (sym (sym l.rest ∙ ap first_of (drop_of_length-le each past_all)))
+-- all are taken over
+pub looks-end : {xs : List (Result ℕ Refusal)} {ks : List ℕ} {a : ℕ} → Looks xs ks a → length xs ≡ 128 → 128 ≤ a → AllKs xs (Ok ks)
+unfolding first_refusal first_of
+looks-end {xs} {ks} {a} l long h = record {
+  known = λ ls q.
+      let same : ls ≡ ks = cc in
+      let past_all : length xs ≤ a = omega arith in
+      let past_ks : length ks ≤ a = omega (arith, l.long) in (
+        sym (sym l.rest ∙ ap (λ (ys : List (Result ℕ Refusal)). first_of (refusals_in ys)) (drop_of_length-le xs past_all)),
+        same ∙ sym (take_all a ks past_ks) ∙ l.told ∙ ap ks_in (take_all a xs past_all),
+      );
+  lacks = λ e q. absurd (cc);
+}
 
 -- ---- the table, read again
 
-module _ (a : TableAnswer) (table words : List ℕ) (says : table_says a (length table) words ≡ accept_table table) {limit c : ℕ} (on : OnTable limit c table) where
-  -- a table that was accepted is not refused
-  pub plan-never : (r : ℕ) → a ≡ TableAnswer.Refused r → (u : Layout) (links : List ℕ) → Prepared limit c table u links
-  plan-never r e u links =
-      let s : unread r ≡ read (grammar_of table) on.next = sym (ap (λ (b : TableAnswer). table_says b (length table) words) e) ∙ says ∙ on.reads in
-      let z : ◌≡◌ {A = ℕ} 0 1 = cc in
-      absurd (omega arith)
+-- its layout and links are those that buffers are given with
+module _ {limit c : ℕ} {table : List ℕ} (on : OnTable limit c table) (a : Table) (words : List ℕ) (says : read (grammar_in a.shape (take a.used words)) (length table) ≡ accept_table table) {end : ℕ} (f : end ≡ a.used)
+    (sound : GrammarSound a.shape.n a.shape.p a.used words) where
+  -- its words are read as before
+  pub plan-ready : Ready limit c a.shape (take end words)
+  plan-ready = read-ready limit c table [] [] on.limit>0 on.limit<11 on.c>0 on.c<1025 a words says f sound
 
-  module _ {n t start p used : ℕ} (e : a ≡ TableAnswer.Table n t start p used) {end : ℕ} (f : end ≡ used) (sound : TableSound a words) where
-    -- its words are read as before
-    pub plan-ready : Ready limit c (record { n = n; t = t; start = start; p = p }) (take end words)
-    plan-ready = read-ready a table words says e f sound limit c on.limit>0 on.limit<11 on.c>0 on.c<1025
-
-    -- its layout and links are those that buffers are given with
-    pub plan-read : {u : Layout} {links : List ℕ} → Sized c (grammar_in (record { n = n; t = t; start = start; p = p }) (take end words)) u × AllLinked (productions_of u.p (take end words)) u.p links → Prepared limit c table u links
-    plan-read (z, l) =
-        let same = table-grammar a table words says e f in
-        let sized = sized-table on plan-ready same z in
-        record { given = λ result scratch enough spare. given-all on plan-ready same z l (rw (sized-needs sized) enough) (rw (sized-spare sized) spare) }
+  pub plan-read : {u : Layout} {links : Links} → Sized c (grammar_in a.shape (take end words)) u × AllLinked (productions_of u.p (take end words)) u.p links → Prepared limit c table u links
+  plan-read (z, l) =
+      let same = table-grammar table a words says f in
+      let sized = sized-table on plan-ready same z in
+      record { given = λ result scratch enough spare. given-all on plan-ready same z l (rw (sized-needs sized) enough) (rw (sized-spare sized) spare) }
 
 -- ---- the marks
 
@@ -212,7 +225,7 @@ worked limit c g A k h e =
 
 -- ---- the joined sets of one k
 
-module _ {limit c : ℕ} {table : List ℕ} {u : Layout} {links result scratch : List ℕ} (given : Given limit c table u links (length result) (length scratch)) {k : ℕ} (k>0 : 1 ≤ k) (k<11 : k ≤ 10)
+module _ {limit c : ℕ} {table : List ℕ} {u : Layout} {links : Links} {result scratch : List ℕ} (given : Given limit c table u links (length result) (length scratch)) {k : ℕ} (k>0 : 1 ≤ k) (k<11 : k ≤ 10)
     {ks marks : List ℕ} (known : Known limit c (grammar_of table) ks) (marked : Marked u.n k ks marks) where
   -- no nonterminal needs this k
   pub none-joined : {some : Bool} → Sought u.n marks some → some ≡ false → KJoined limit c k (grammar_of table) u ks result scratch result scratch
@@ -223,7 +236,7 @@ module _ {limit c : ℕ} {table : List ℕ} {u : Layout} {links result scratch :
   }
 
   -- one does, and so the engine works it out
-  module _ {some : Bool} (s : Sought u.n marks some) (e : some ≡ true) {l : Lookahead} {result₁ scratch₁ : List ℕ} (call : Analysed k c table result scratch l result₁ scratch₁) where
+  module _ {some : Bool} (s : Sought u.n marks some) (e : some ≡ true) {l : EngineRecord} {result₁ scratch₁ : List ℕ} (call : Analysed k c table result scratch l result₁ scratch₁) where
     -- a marked one needs k
     needs-it : (A : ℕ) → A < u.n → get_or marks A 0 ≡ 22 → get_or ks A 0 ≡ k
     needs-it A h o = by (eqb (get_or ks A 0) k) refl

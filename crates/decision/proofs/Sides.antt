@@ -16,6 +16,7 @@ use Rattle.cfg.proofs.Sizes.{length-productions}
 use Rattle.decision_theory.specs.Needed.{OneProduction}
 use Rattle.decision_theory.specs.Steps.{standing}
 use Rattle.decision_theory.proofs.Steps.{begun-one, begun-several}
+use Rattle.decision.specs.declared.Links.{Links}
 use Rattle.decision.specs.Own.{left_at, next_at, first_at, FirstFrom, LinkedFrom, Linked, SidesOf, Sided, LinkedOne, AllLinked, OneOwn, Begun, AllBegun}
 use Rattle.decision.specs.Steps.{Told, StandAt}
 use Rattle.decision.proofs.Padded.{zeros-at}
@@ -26,39 +27,45 @@ none = record { left = 0; right = [] }
 -- ---- the left sides
 
 -- the loop: i left sides are written, and nothing else
-pub record Sides (p : ℕ) (words links : List ℕ) (i at : ℕ) : Type 0 where
+pub record Sides (p : ℕ) (words : List ℕ) (links : Links) (i at : ℕ) : Type 0 where
   pub cursor : Cursor 128 p words i at
-  pub long : length links ≡ 1152
+  pub lefts-long : length links.left ≡ 512
+  pub nexts-long : length links.next ≡ 512
+  pub firsts-long : length links.first ≡ 128
   pub done : (j : ℕ) → j < i → (left_at links j ≡ (get_or (productions_of p words) j none).left) × (left_at links j < 128)
   pub unlinked : (A : ℕ) → A < 128 → first_at links A ≡ p
   pub behind : (j : ℕ) → get_or (productions_of p words) (i + j) none ≡ get_or (productions_of (p - i) (drop at words)) j none
 
 module _ (p : ℕ) (words : List ℕ) where
-  pub sides-start : Sound 128 p words → Sides p words (replicate 1152 p) 0 0
+  pub sides-start : Sound 128 p words → Sides p words (record { left = replicate 512 0; next = replicate 512 p; first = replicate 128 p }) 0 0
   sides-start s =
       let all : p - 0 ≡ p = omega arith in
       record {
         cursor = cursor-start 128 p words s;
-        long = length-replicate {A = ℕ} 1152 p;
+        lefts-long = length-replicate {A = ℕ} 512 0;
+        nexts-long = length-replicate {A = ℕ} 512 p;
+        firsts-long = length-replicate {A = ℕ} 128 p;
         done = λ j h. absurd (omega arith);
-        unlinked = λ A h. get_or-replicate 1152 (1024 + A) p 0 (omega arith);
+        unlinked = λ A h. get_or-replicate 128 A p 0 h;
         behind = λ j. let z : 0 + j ≡ j = omega arith in rw (z, all);
       }
 
-  module _ {links : List ℕ} {i at : ℕ} (w : Sides p words links i at) where
-    pub sides-more : {span : Span} {l : ℕ} → i < p → p ≤ 512 → SpanAt words at span → l ≡ span.left → Sides p words (set links i l) (i + 1) span.to
+  module _ {links : Links} {i at : ℕ} (w : Sides p words links i at) where
+    pub sides-more : {span : Span} {l : ℕ} → i < p → p ≤ 512 → SpanAt words at span → l ≡ span.left → Sides p words (record { left = set links.left i l; next = links.next; first = links.first }) (i + 1) span.to
     sides-more {span} {l} h few s e =
         let first = span-first 128 p words i at w.cursor h span s in
         let head : (get_or (productions_of p words) i none).left ≡ span.left =
         ap (λ (j : ℕ). (get_or (productions_of p words) j none).left) (let z : i ≡ i + 0 = omega arith in z) ∙ ap (λ (x : Production). x.left) (w.behind 0) ∙ rw first in
-        let here : left_at (set links i l) i ≡ l = get_or-set_same links i l 0 (omega (arith, w.long)) in
+        let here : get_or (set links.left i l) i 0 ≡ l = get_or-set_same links.left i l 0 (omega (arith, w.lefts-long)) in
         record {
           cursor = cursor-next 128 p words i at w.cursor h span s;
-          long = length-set links i l ∙ w.long;
+          lefts-long = length-set links.left i l ∙ w.lefts-long;
+          nexts-long = w.nexts-long;
+          firsts-long = w.firsts-long;
           done = below_more _ i
-              (λ j k. rw (get_or-set_other links i j l 0 (λ (q : j ≡ i). omega arith)) (w.done j k))
+              (λ j k. rw (get_or-set_other links.left i j l 0 (λ (q : j ≡ i). omega arith)) (w.done j k))
               (here ∙ e ∙ sym head, omega (arith, here, e, span_left 128 p words i at w.cursor h span s));
-          unlinked = λ A k. get_or-set_other links i (1024 + A) l 0 (λ (q : 1024 + A ≡ i). omega arith) ∙ w.unlinked A k;
+          unlinked = w.unlinked;
           behind = λ j. let z : i + 1 + j ≡ i + suc j = omega arith in ap (λ (n : ℕ). get_or (productions_of p words) n none) z ∙ w.behind (suc j) ∙ rw first;
         }
 
@@ -66,7 +73,9 @@ module _ (p : ℕ) (words : List ℕ) where
     sides-end h few = record {
       sides = record { each = λ j k. (w.done j (omega (arith, rw (length-productions p words) at k))).0 };
       unlinked = record {
-        long = w.long;
+        lefts-long = w.lefts-long;
+        nexts-long = w.nexts-long;
+        firsts-long = w.firsts-long;
         few = few;
         small = λ j k. (w.done j (omega arith)).1;
         nexts = λ j k l. absurd (omega arith);
@@ -77,7 +86,7 @@ module _ (p : ℕ) (words : List ℕ) where
 -- ---- the links
 
 -- what is first depends on the left sides alone
-first-same : (links links' : List ℕ) {p A from f : ℕ} → ((j : ℕ) → j < p → left_at links' j ≡ left_at links j) → FirstFrom links p A from f → FirstFrom links' p A from f
+first-same : (links links' : Links) {p A from f : ℕ} → ((j : ℕ) → j < p → left_at links' j ≡ left_at links j) → FirstFrom links p A from f → FirstFrom links' p A from f
 first-same links links' same w = record {
   above = w.above;
   below = w.below;
@@ -85,32 +94,30 @@ first-same links links' same w = record {
   none = λ j h l e. w.none j h l (sym (same j (omega (arith, w.below))) ∙ e);
 }
 
-module _ {links : List ℕ} {p i : ℕ} (w : LinkedFrom links p (i + 1)) (h : i < p) where
+module _ {links : Links} {p i : ℕ} (w : LinkedFrom links p (i + 1)) (h : i < p) where
   abbrev a : ℕ
   a = left_at links i
 
-  abbrev after : List ℕ
-  after = set (set links (512 + i) (first_at links a)) (1024 + a) i
-
-  -- every other place is as it was
-  other : (x : ℕ) → ¬ x ≡ 512 + i → ¬ x ≡ 1024 + a → get_or after x 0 ≡ get_or links x 0
-  other x n m = get_or-set_other (set links (512 + i) (first_at links a)) (1024 + a) x i 0 m ∙ get_or-set_other links (512 + i) x (first_at links a) 0 n
+  abbrev after : Links
+  after = record { left = links.left; next = set links.next i (first_at links a); first = set links.first a i }
 
   same : (j : ℕ) → j < p → left_at after j ≡ left_at links j
-  same j l = other j (λ (q : j ≡ 512 + i). omega (arith, w.few)) (λ (q : j ≡ 1024 + a). omega (arith, w.few))
+  same j l = refl
 
   next-is : next_at after i ≡ first_at links a
-  next-is = get_or-set_other (set links (512 + i) (first_at links a)) (1024 + a) (512 + i) i 0 (λ (q : 512 + i ≡ 1024 + a). omega (arith, w.few)) ∙ get_or-set_same links (512 + i) (first_at links a) 0 (omega (arith, w.few, w.long))
+  next-is = get_or-set_same links.next i (first_at links a) 0 (omega (arith, w.few, w.nexts-long))
 
   first-is : first_at after a ≡ i
-  first-is = get_or-set_same (set links (512 + i) (first_at links a)) (1024 + a) i 0 (omega (arith, length-set links (512 + i) (first_at links a), w.long, w.small i h))
+  first-is = get_or-set_same links.first a i 0 (omega (arith, w.firsts-long, w.small i h))
 
   pub link-more : LinkedOne links p i after
   link-more = record {
     linked = record {
-      long = length-set (set links (512 + i) (first_at links a)) (1024 + a) i ∙ length-set links (512 + i) (first_at links a) ∙ w.long;
+      lefts-long = w.lefts-long;
+      nexts-long = length-set links.next i (first_at links a) ∙ w.nexts-long;
+      firsts-long = length-set links.first a i ∙ w.firsts-long;
       few = w.few;
-      small = λ j l. rw (same j l) (w.small j l);
+      small = w.small;
       nexts = λ j l m. next j l m (ℕ_discrete j i);
       firsts = λ A l. first A l (ℕ_discrete A a);
     };
@@ -118,15 +125,15 @@ module _ {links : List ℕ} {p i : ℕ} (w : LinkedFrom links p (i + 1)) (h : i 
   }
     where
       next : (j : ℕ) → i ≤ j → j < p → Dec (j ≡ i) → FirstFrom after p (left_at after j) (j + 1) (next_at after j)
-      next j l m (yes q) = rw (q, same i h, next-is) (first-same links after same (w.firsts a (w.small i h)))
+      next j l m (yes q) = rw (q, next-is) (first-same links after same (w.firsts a (w.small i h)))
       next j l m (no q) =
-          let still : next_at after j ≡ next_at links j = other (512 + j) (λ (e : 512 + j ≡ 512 + i). q (omega arith)) (λ (e : 512 + j ≡ 1024 + a). omega (arith, w.few)) in
-          rw (same j m, still) (first-same links after same (w.nexts j (omega arith) m))
+          let still : next_at after j ≡ next_at links j = get_or-set_other links.next i j (first_at links a) 0 q in
+          rw still (first-same links after same (w.nexts j (omega arith) m))
 
       first : (A : ℕ) → A < 128 → Dec (A ≡ a) → FirstFrom after p A i (first_at after A)
       first A l (yes q) = rw (q, first-is) (record { above = omega arith; below = omega arith; here = λ _. same i h; none = λ j m k. absurd (omega arith) })
       first A l (no q) =
-          let still : first_at after A ≡ first_at links A = other (1024 + A) (λ (e : 1024 + A ≡ 512 + i). omega (arith, w.few)) (λ (e : 1024 + A ≡ 1024 + a). q (omega arith)) in
+          let still : first_at after A ≡ first_at links A = get_or-set_other links.first a A i 0 q in
           let old = first-same links after same (w.firsts A l) in
           rw still (record { above = omega (arith, old.above); below = old.below; here = old.here; none = λ j m k. before old j m k (ℕ_discrete j i) })
         where
@@ -135,23 +142,23 @@ module _ {links : List ℕ} {p i : ℕ} (w : LinkedFrom links p (i + 1)) (h : i 
           before old j m k (no e) s = old.none j (omega arith) k s
 
 -- the loop, from the last production down
-pub record Links (ps : List Production) (p : ℕ) (links : List ℕ) (i : ℕ) : Type 0 where
+pub record Linking (ps : List Production) (p : ℕ) (links : Links) (i : ℕ) : Type 0 where
   pub below : i ≤ p
   pub all : length ps ≡ p
   pub sides : SidesOf ps links
   pub linked : LinkedFrom links p i
 
-pub links-start : (p : ℕ) (words : List ℕ) {links : List ℕ} → Sided (productions_of p words) p links → Links (productions_of p words) p links p
+pub links-start : (p : ℕ) (words : List ℕ) {links : Links} → Sided (productions_of p words) p links → Linking (productions_of p words) p links p
 links-start p words s = record { below = omega arith; all = length-productions p words; sides = s.sides; linked = s.unlinked }
 
-module _ {ps : List Production} {p : ℕ} {links : List ℕ} {i : ℕ} (w : Links ps p links i) where
+module _ {ps : List Production} {p : ℕ} {links : Links} {i : ℕ} (w : Linking ps p links i) where
   pub links-behind : 0 < i → LinkedFrom links p (i - 1 + 1)
   links-behind h = let e : i - 1 + 1 ≡ i = omega arith in rw e w.linked
 
   pub links-inside : 0 < i → i - 1 < p
   links-inside h = omega (arith, w.below)
 
-  pub links-more : {links' : List ℕ} → 0 < i → LinkedOne links p (i - 1) links' → Links ps p links' (i - 1)
+  pub links-more : {links' : Links} → 0 < i → LinkedOne links p (i - 1) links' → Linking ps p links' (i - 1)
   links-more h one = record {
     below = omega (arith, w.below);
     all = w.all;
@@ -164,7 +171,7 @@ module _ {ps : List Production} {p : ℕ} {links : List ℕ} {i : ℕ} (w : Link
 
 -- ---- what it begins with
 
-module _ {links : List ℕ} {p A : ℕ} (w : Linked links p) (l : A < 128) where
+module _ {links : Links} {p A : ℕ} (w : Linked links p) (l : A < 128) where
   first : FirstFrom links p A 0 (first_at links A)
   first = w.firsts A l
 
@@ -189,16 +196,16 @@ module _ {links : List ℕ} {p A : ℕ} (w : Linked links p) (l : A < 128) where
         by j k e (no b) (yes c) = absurd (second.none j (omega arith) (omega arith) e)
         by j k e (no b) (no c) = omega arith
 
-pub record Begins (links : List ℕ) (p n : ℕ) (ρ : List ℕ) (a : ℕ) : Type 0 where
+pub record Begins (links : Links) (p n : ℕ) (ρ : List ℕ) (a : ℕ) : Type 0 where
   pub below : a ≤ n
   pub each : (A : ℕ) → A < a → Begun links p A (get_or ρ A 0)
   pub others : (A : ℕ) → a ≤ A → get_or ρ A 0 ≡ 0
   pub long : length ρ ≡ 128
 
-pub begins-start : (links : List ℕ) (p n : ℕ) → Begins links p n (replicate 128 0) 0
+pub begins-start : (links : Links) (p n : ℕ) → Begins links p n (replicate 128 0) 0
 begins-start links p n = record { below = omega arith; each = λ A h. absurd (omega arith); others = λ A h. zeros-at 128 A; long = length-replicate {A = ℕ} 128 0 }
 
-module _ {links : List ℕ} {p n : ℕ} {ρ : List ℕ} {a : ℕ} (w : Begins links p n ρ a) where
+module _ {links : Links} {p n : ℕ} {ρ : List ℕ} {a : ℕ} (w : Begins links p n ρ a) where
   pub begins-more : {r : ℕ} → a < n → n ≤ 128 → Begun links p a r → Begins links p n (set ρ a r) (a + 1)
   begins-more {r} h few b = record {
     below = omega arith;
@@ -212,7 +219,7 @@ module _ {links : List ℕ} {p n : ℕ} {ρ : List ℕ} {a : ℕ} (w : Begins li
 
 -- ---- as the definition begins
 
-module _ (c : ℕ) (g : Grammar) (links : List ℕ) {p : ℕ} (sides : SidesOf g.productions links) (ep : p ≡ length g.productions) where
+module _ (c : ℕ) (g : Grammar) (links : Links) {p : ℕ} (sides : SidesOf g.productions links) (ep : p ≡ length g.productions) where
   -- the list and the grammar speak of the same productions
   one-own : (A : ℕ) → OneOwn links p A → OneProduction g A
   one-own A (i, h, e, only) =

@@ -31,6 +31,7 @@ use Rattle.decision_theory.specs.Needed.{own, Choice, choices_of, apart}
 use Rattle.decision_theory.specs.Steps.{tried}
 use Rattle.decision_theory.proofs.Needed.{own-means, own-rising}
 use Rattle.decision_theory.proofs.Steps.{joined_at, choice_at, choices-fit, choices-over, apart-numbers}
+use Rattle.decision.specs.declared.Links.{Links}
 use Rattle.decision.specs.declared.Layout.{Layout}
 use Rattle.decision.specs.Own.{left_at, SidesOf}
 use Rattle.decision.specs.Steps.{Sized, held, room, production_set, joined_of, JoinedTo, JoinedAll, Apart, DecidedTo, Deciding, SetsTried, SetsDone, PassedTo, Passing, Told, after_k, TriedAt}
@@ -38,7 +39,7 @@ use Rattle.decision.specs.Onward.{choices_in}
 
 -- ---- joined, and then decided
 
-module _ {u : Layout} {links : List ℕ} {k : ℕ} {ρ ρ₁ result work result₁ work₁ : List ℕ} (j : JoinedAll u links k u.p ρ ρ₁ result work result₁ work₁) where
+module _ {u : Layout} {links : Links} {k : ℕ} {ρ ρ₁ result work result₁ work₁ : List ℕ} (j : JoinedAll u links k u.p ρ ρ₁ result work result₁ work₁) where
   pub joined-sets : Sets u.b u.sets result₁
   joined-sets = record { k = k; width = j.ready.width; store = j.ready.result-store }
 
@@ -111,7 +112,7 @@ passed-tried c g k {n} {ρ} {ρ'} κ en e p = record {
 
 -- the sets of an analysis
 module _ (c k : ℕ) (g : Grammar) (ok : Accepted g) (k>0 : 1 ≤ k) (c>0 : 1 ≤ c) (c<1025 : c ≤ 1024) (a : Analysis) (e : work k c g ≡ got a)
-    (u : Layout) (sized : Sized c g u) (links : List ℕ) (sides : SidesOf g.productions links) where
+    (u : Layout) (sized : Sized c g u) (links : Links) (sides : SidesOf g.productions links) where
   is : Analysed g k c a
   is = answers-right g k c ok k>0 c>0 a e
 

@@ -1,6 +1,8 @@
 -- What a call that goes on from the answers asks and is promised: the first refusal, a table's layout and links, and the joined sets of those nonterminals
 -- that need one k. Assumes nothing.
-use Rattle.std.specs.Prelude.{ℕ, ◌+◌, ◌≤◌, ◌<◌, ◌≡◌, cond, List, [], ◌∷◌, map, eqb, get_or}
+use Rattle.std.specs.Prelude.{ℕ, ◌+◌, ◌≤◌, ◌<◌, ◌≡◌, cond, List, [], ◌∷◌, map, eqb, get_or, Result, Ok, Err}
+use Rattle.refusals.specs.Numbers.{number}
+use Rattle.refusals.specs.declared.Refusal.{Refusal}
 use Rattle.cfg.specs.Grammar.{Grammar}
 use Rattle.k_tuple.specs.Strings.{width_of}
 use Rattle.k_tuples.specs.States.{State}
@@ -9,7 +11,9 @@ use Rattle.k_tuples.specs.Blocks.{IsStored}
 use Rattle.analysis.specs.Analysis.{result_needs, scratch_needs}
 use Rattle.engine.specs.Call.{wiped}
 use Rattle.decision_theory.specs.Needed.{Choice, own, decide, needed_k}
+use Rattle.decision.specs.declared.Links.{Links}
 use Rattle.decision.specs.declared.Layout.{Layout}
+use Rattle.decision.specs.Call.{refusals_in, ks_in}
 use Rattle.decision.specs.Steps.{Long, held, production_set, grammar_of, Given, Beyond}
 
 -- ---- the first refusal
@@ -23,6 +27,11 @@ first_of (x ∷ xs) = cond (eqb x 0) (first_of xs) x
 unfoldable pub first_refusal : ℕ → List ℕ → ℕ
 first_refusal whole each = cond (eqb whole 0) (first_of each) whole
 
+-- every k where all have one; else the refusal of the lowest that has none
+pub record AllKs (xs : List (Result ℕ Refusal)) (r : Result (List ℕ) Refusal) : Type 0 where
+  pub known : (ks : List ℕ) → r ≡ Ok ks → (0 ≡ first_refusal 0 (refusals_in xs)) × (ks ≡ ks_in xs)
+  pub lacks : (e : Refusal) → r ≡ Err e → number e ≡ first_refusal 0 (refusals_in xs)
+
 -- ---- every nonterminal is decided
 
 -- each at the k of the list
@@ -33,7 +42,7 @@ pub record Known (limit c : ℕ) (g : Grammar) (ks : List ℕ) : Type 0 where
 -- ---- the table, read again
 
 -- a layout and links with which buffers of enough words are given
-pub record Prepared (limit c : ℕ) (table : List ℕ) (u : Layout) (links : List ℕ) : Type 0 where
+pub record Prepared (limit c : ℕ) (table : List ℕ) (u : Layout) (links : Links) : Type 0 where
   pub given : (result scratch : ℕ) → result_needs c (grammar_of table) ≤ result → scratch_needs c (grammar_of table) ≤ scratch → Given limit c table u links result scratch
 
 -- ---- one k

@@ -6,20 +6,19 @@ use Rattle.analysis.specs.Analysis.{analyse}
 use Rattle.analysis.specs.Promises.{Between}
 use Rattle.engine.specs.Call.{result_needed, scratch_needed, wiped}
 use Rattle.decision_theory.specs.Needed.{Reads, OneProduction, Needs, WorkedOut, NoneBelow, NotWorkedOut, Answered, CallAnswered}
-use Rattle.decision.specs.declared.Needed.{Needed}
-use Rattle.decision.specs.Call.{refusal_of, k_of, record_of, Promised}
+use Rattle.decision.specs.Call.{Record, refusal_of, k_of, record_of, Promised}
 
 -- Two outcomes of one input are the same, in every number and every lent word.
 abbrev pub CallOne : Type 0
-CallOne = (limit c : ℕ) (table result scratch : List ℕ) (r s : Needed) (R S R' S' : List ℕ)
+CallOne = (limit c : ℕ) (table result scratch : List ℕ) (r s : Record) (R S R' S' : List ℕ)
     → Promised limit c table result scratch r R S → Promised limit c table result scratch s R' S' → (r ≡ s) × (R ≡ R') × (S ≡ S')
 
 -- what holds for every outcome
-abbrev Always : ((limit c : ℕ) (table result scratch : List ℕ) (r : Needed) (R S : List ℕ) → Type 0) → Type 0
-Always P = (limit c : ℕ) (table result scratch : List ℕ) (r : Needed) (R S : List ℕ) → Promised limit c table result scratch r R S → P limit c table result scratch r R S
+abbrev Always : ((limit c : ℕ) (table result scratch : List ℕ) (r : Record) (R S : List ℕ) → Type 0) → Type 0
+Always P = (limit c : ℕ) (table result scratch : List ℕ) (r : Record) (R S : List ℕ) → Promised limit c table result scratch r R S → P limit c table result scratch r R S
 
 -- The record is that of the answer which the rules give, by the sets alone; it is one only.
-pub record Answers (limit c : ℕ) (table result scratch : List ℕ) (r : Needed) : Type 0 where
+pub record Answers (limit c : ℕ) (table result scratch : List ℕ) (r : Record) : Type 0 where
   pub case : Answer (List (Answer ℕ))
   pub answered : CallAnswered limit c table (length result) (length scratch) case
   pub told : r ≡ record_of case
@@ -45,14 +44,14 @@ RefusedUntouched = Always (λ limit c table result scratch r R S. ¬ r.refusal �
 -- ---- the nonterminals
 
 -- What is answered for one nonterminal: its two numbers tell an answer, which is the one of the rules.
-pub record AnswerAt (g : Grammar) (limit c : ℕ) (r : Needed) (A : ℕ) : Type 0 where
+pub record AnswerAt (g : Grammar) (limit c : ℕ) (r : Record) (A : ℕ) : Type 0 where
   pub answer : Answer ℕ
   pub refusal : get_or r.refusals A 0 ≡ refusal_of answer
   pub k : get_or r.ks A 0 ≡ k_of answer
   pub answered : Answered g c limit A answer
 
 -- A call that is not refused: each nonterminal of the table's grammar is answered, the numbers behind them are 0, and the words that the engine needs are zero.
-pub record AnsweredEach (limit c : ℕ) (table result scratch : List ℕ) (r : Needed) (R S : List ℕ) : Type 0 where
+pub record AnsweredEach (limit c : ℕ) (table result scratch : List ℕ) (r : Record) (R S : List ℕ) : Type 0 where
   pub g : Grammar
   pub reads : Reads table g
   pub accepted : Accepted g
@@ -77,4 +76,4 @@ pub record Told (g : Grammar) (limit c : ℕ) (A refusal k : ℕ) : Type 0 where
   pub twenty-two-exactly : (refusal ≡ 22) ↔ (¬ OneProduction g A × NoneBelow g c A (suc limit))
 
 abbrev pub ToldRight : Type 0
-ToldRight = (g : Grammar) (limit c : ℕ) (r : Needed) (A : ℕ) → AnswerAt g limit c r A → Told g limit c A (get_or r.refusals A 0) (get_or r.ks A 0)
+ToldRight = (g : Grammar) (limit c : ℕ) (r : Record) (A : ℕ) → AnswerAt g limit c r A → Told g limit c A (get_or r.refusals A 0) (get_or r.ks A 0)

@@ -1,43 +1,38 @@
-// For calls that go on from what `needed_k` answered: its first refusal, the table's layout and links, the joined sets of the nonterminals that need one k,
+// For calls that go on from what `needed_k` answered: every k or the first refusal, the table's layout and links, the joined sets of the nonterminals that need one k,
 // which `needed_k` worked out and did not keep, and the wiping at the end.
 ghost use Rattle.std.specs.Prelude.{◌≡◌, ◌≤◌, length};
 ghost use Rattle.cfg.specs.Written.{productions_of};
 ghost use Rattle.engine.specs.Steps.{grammar_in, Ready as EngineReady};
+ghost use Rattle.decision.specs.Call.{refusals_in};
 ghost use Rattle.decision.specs.Own.{AllLinked};
 ghost use Rattle.decision.specs.Steps.{Long, Given, Sized, OnTable, grammar_of};
-ghost use Rattle.decision.specs.Onward.{first_refusal, Known, Prepared, Marked, KJoined, Wiped};
+ghost use Rattle.decision.specs.Onward.{AllKs, Known, Prepared, Marked, KJoined, Wiped};
 
 use crate::joins::join_all;
-use crate::own::{link_all, wide};
-use crate::{Layout, layout_of, some_open, wipe};
+use crate::own::link_all;
+use crate::{KAnswers, Layout, Links, layout_of, some_open};
 use cfg::accept::read_grammar;
-use cfg::table::TableAnswer;
-use engine::{Shape, lookahead_sets};
+use cfg::table::Shape;
+use engine::{lookahead_sets, wipe};
+use refusals::Refusal;
 
 // How a table's sets lie in the result, and its productions linked by their left sides.
 #[derive(Clone, Copy)]
 pub struct Plan {
     pub layout: Layout,
-    pub links: [usize; 1152],
+    pub links: Links,
 }
 
-// The first refusal: that of the whole call, or the lowest nonterminal's; 0 where there is none.
-pub fn first_refusal(whole: u64, each: &[u64; 128]) -> u64
-    requires { Long each.now }
-    ensures { result ≡ first_refusal whole each.now }
+// Each nonterminal's k, where all have one; else why the lowest of those that have none has none.
+pub fn all_ks(answers: &KAnswers) -> Result<[u64; 128], Refusal>
+    requires { Long answers.now }
+    ensures { AllKs answers.now result }
 {
-    if whole != 0 {
-        return whole;
+    let mut ks = [0u64; 128];
+    for a in 0..128 {
+        ks[a] = answers[a]?;
     }
-    let mut a = 0;
-    while a < 128 {
-        let r = each[a];
-        if r != 0 {
-            return r;
-        }
-        a += 1;
-    }
-    0
+    Ok(ks)
 }
 
 // The plan of a grammar in words.
@@ -50,50 +45,44 @@ fn plan_in(limit: u64, c: u64, s: Shape, words: &[u16]) -> Plan
     Plan { layout, links }
 }
 
+// A plan of no productions.
+fn no_plan() -> Plan {
+    let layout = Layout {
+        n: 0,
+        p: 0,
+        b: 0,
+        sets: 0,
+    };
+    let links = Links {
+        left: [0; 512],
+        next: [0; 512],
+        first: [0; 128],
+    };
+    Plan { layout, links }
+}
+
 // The plan of a table that was accepted; no other comes here.
 pub fn plan_of(limit: u64, c: u64, table: &[u8]) -> Plan
     requires { OnTable limit c table.now }
     ensures { Prepared limit c table.now result.layout result.links }
 {
     let mut words = [0u16; 5120];
-    let read = read_grammar(table, &mut words);
-    let TableAnswer::Table {
-        n,
-        t,
-        start,
-        p,
-        used,
-    } = read
-    else {
-        let layout = Layout {
-            n: 0,
-            p: 0,
-            b: 0,
-            sets: 0,
-        };
-        return Plan {
-            layout,
-            links: [0; 1152],
-        };
+    let Ok(read) = read_grammar(table, &mut words) else {
+        return no_plan();
     };
-    let end = wide(used);
-    let s = Shape { n, t, start, p };
-    plan_in(limit, c, s, &words[..end])
+    let end = usize::from(read.used);
+    plan_in(limit, c, read.shape, &words[..end])
 }
 
 // Marks those of n nonterminals whose k this is as open.
-fn marks_of(ks: &[u64; 128], n: usize, k: u64) -> [u64; 128]
+fn marks_of(ks: &[u64; 128], n: usize, k: u64) -> KAnswers
     requires { n ≤ 128 }
-    ensures { Marked n k ks.now result }
+    ensures { Marked n k ks.now (refusals_in result) }
 {
-    let mut marks = [0u64; 128];
-    let mut a = 0;
-    while a < n {
+    let mut marks = [Ok(0u64); 128];
+    for a in 0..n {
         if ks[a] == k {
-            marks[a] = 22;
-            a += 1;
-        } else {
-            a += 1;
+            marks[a] = Err(Refusal::NoneServes);
         }
     }
     marks
@@ -106,7 +95,7 @@ pub fn join_k(
     c: u64,
     table: &[u8],
     u: Layout,
-    links: &[usize; 1152],
+    links: &Links,
     ks: &[u64; 128],
     res: &mut [u64],
     scratch: &mut [u64],
@@ -115,10 +104,11 @@ pub fn join_k(
     ensures { KJoined limit c k (grammar_of table.now) u ks.now res.old scratch.old res.new scratch.new }
 {
     let mut marks = marks_of(ks, u.n, k);
-    if some_open(&marks, u.n) {} else {
+    if !some_open(&marks, u.n) {
         return;
     }
-    lookahead_sets(k, c, table, res, scratch);
+    // a k that serves was not refused
+    let _ = lookahead_sets(k, c, table, res, scratch);
     let b = u.b;
     join_all(res, &mut scratch[..b], u, links, k, &mut marks);
 }
@@ -129,7 +119,7 @@ pub fn wipe_both(
     c: u64,
     table: &[u8],
     u: Layout,
-    links: &[usize; 1152],
+    links: &Links,
     res: &mut [u64],
     scratch: &mut [u64],
 )

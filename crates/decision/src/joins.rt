@@ -3,35 +3,49 @@ ghost use Rattle.std.specs.Prelude.{◌≡◌, ◌<◌};
 ghost use Rattle.k_tuples.specs.States.{set_of};
 ghost use Rattle.blocks.specs.Stores.{Joined};
 ghost use Rattle.k_tuples.specs.Blocks.{part_at};
+ghost use Rattle.decision.specs.Call.{refusals_in, ks_in};
 ghost use Rattle.decision.specs.Steps.{Long, Fit, Ready, Taken, JoinedOne, JoinedAll};
 
-use crate::Layout;
-use k_tuples::set::{Grown, is_full};
+use crate::{KAnswers, Layout, Links, is_open};
+use blocks::block;
+use k_tuples::set::Grown;
+use refusals::Refusal;
 
 // Joins set at of the result with set from, in the block.
-fn join_block(work: &mut [u64], res: &[u64], u: Layout, k: u64, at: usize, from: usize) -> Grown
+fn join_block(
+    work: &mut [u64],
+    res: &[u64],
+    u: Layout,
+    k: u64,
+    at: usize,
+    from: usize,
+) -> Result<Grown, Refusal>
     requires { Ready u k res.now work.old × ((at < u.sets) × (from < u.sets)) }
     ensures { Joined k u.b 1 0 result (part_at u.b at res.now) (part_at u.b from res.now) work.old work.new }
 {
-    let b = u.b;
-    let x = at * b;
-    let x_end = x + b;
-    let y = from * b;
-    let y_end = y + b;
-    blocks::join_into(work, &res[x..x_end], &res[y..y_end], b, 1, 0, k)
+    let x = block(res, u.b, at);
+    let y = block(res, u.b, from);
+    blocks::join_into(work, x, y, u.b, 1, 0, k)
 }
 
-// Makes set at of the result its join with set from. Says whether that was too large; the set is then as it was.
-fn take_join(res: &mut [u64], work: &mut [u64], u: Layout, k: u64, at: usize, from: usize) -> bool
+// Makes set at of the result its join with set from. An error says that this was too large; the set is then as it was.
+fn take_join(
+    res: &mut [u64],
+    work: &mut [u64],
+    u: Layout,
+    k: u64,
+    at: usize,
+    from: usize,
+) -> Result<(), Refusal>
     requires { Ready u k res.old work.old × ((at < u.sets) × (from < u.sets)) }
     ensures { Taken u k at from result res.old work.old res.new work.new }
 {
-    if is_full(join_block(work, res, u, k, at, from)) {
+    if join_block(work, res, u, k, at, from).is_err() {
         k_tuples::set::clear(work);
-        return true;
+        return Err(Refusal::SetTooLarge);
     }
     blocks::copy_block(res, work, u.b, u.sets, 1, 0, at);
-    false
+    Ok(())
 }
 
 // Joins production i's set, where its left side is open.
@@ -39,23 +53,23 @@ fn join_one(
     res: &mut [u64],
     work: &mut [u64],
     u: Layout,
-    links: &[usize; 1152],
+    links: &Links,
     k: u64,
     i: usize,
-    refusals: &mut [u64; 128],
+    answers: &mut KAnswers,
 )
-    requires { (Ready u k res.old work.old × Fit u links.now) × ((i < u.p) × Long refusals.old) }
-    ensures { JoinedOne u links.now k i refusals.old refusals.new res.old work.old res.new work.new }
+    requires { (Ready u k res.old work.old × Fit u links.now) × ((i < u.p) × Long answers.old) }
+    ensures joined { JoinedOne u links.now k i (refusals_in answers.old) (refusals_in answers.new) res.old work.old res.new work.new }
+    ensures ks { ks_in answers.new ≡ ks_in answers.old }
 {
-    let a = links[i];
-    if refusals[a] != 22 {
+    let a = links.left[i];
+    if !is_open(answers[a]) {
         return;
     }
     let at = u.n + i;
     let from = u.n + u.p + a;
-    if take_join(res, work, u, k, at, from) {
-        refusals[a] = 11;
-        return;
+    if let Err(e) = take_join(res, work, u, k, at, from) {
+        answers[a] = Err(e);
     }
 }
 
@@ -64,17 +78,15 @@ pub fn join_all(
     res: &mut [u64],
     work: &mut [u64],
     u: Layout,
-    links: &[usize; 1152],
+    links: &Links,
     k: u64,
-    refusals: &mut [u64; 128],
+    answers: &mut KAnswers,
 )
-    requires { (Ready u k res.old work.old × Fit u links.now) × Long refusals.old }
-    ensures { JoinedAll u links.now k u.p refusals.old refusals.new res.old work.old res.new work.new }
+    requires { (Ready u k res.old work.old × Fit u links.now) × Long answers.old }
+    ensures joined { JoinedAll u links.now k u.p (refusals_in answers.old) (refusals_in answers.new) res.old work.old res.new work.new }
+    ensures ks { ks_in answers.new ≡ ks_in answers.old }
 {
-    let p = u.p;
-    let mut i = 0;
-    while i < p {
-        join_one(res, work, u, links, k, i, refusals);
-        i += 1;
+    for i in 0..u.p {
+        join_one(res, work, u, links, k, i, answers);
     }
 }

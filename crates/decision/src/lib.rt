@@ -2,33 +2,45 @@
 #![tactic(auto)]
 
 ghost use Rattle.std.specs.Prelude.{◌≡◌, ◌+◌, ◌*◌, ◌≤◌, length, take};
-ghost use Rattle.k_tuples.specs.Work.{refused as refused_by};
 ghost use Rattle.analysis.specs.Analysis.{result_needs, scratch_needs};
 ghost use Rattle.engine.specs.Call.{wiped};
-ghost use Rattle.engine.specs.Steps.{grammar_in, Ready as EngineReady, table_refusal};
-ghost use Rattle.decision.specs.Call.{record_of, Promised};
-ghost use Rattle.decision.specs.Steps.{Long, Fit, Passing, Sought, held, Ready, SetsDone, Given, KDone, StandAt, AllDone, AnsweredAll, Sized, OnTable, grammar_of};
+ghost use Rattle.engine.specs.Steps.{grammar_in, Ready as EngineReady};
+ghost use Rattle.decision.specs.Call.{refusal_in, refusals_in, ks_in, recorded, Promised};
+ghost use Rattle.decision.specs.Steps.{Long, Says, Fit, Passing, Sought, held, Ready, SetsDone, Given, KDone, StandAt, AllDone, AnsweredAll, Sized, OnTable, grammar_of};
 
 use crate::joins::join_all;
-use crate::own::{begin, link_all, wide};
+use crate::own::{begin, link_all};
 use crate::pairs::decide;
 use cfg::accept::read_grammar;
-use cfg::table::{TableAnswer, count_occurrences};
-use engine::{Shape, lookahead_sets};
+use cfg::table::{Shape, count_occurrences};
+use engine::{lookahead_sets, wipe};
 use k_tuples::set::index;
+use refusals::Refusal;
 
 pub mod joined;
 mod joins;
 mod own;
 mod pairs;
 
-// What the call answers: the refusal of the whole call, 0 where there is none; how many nonterminals there are; for each its refusal, 0, 11 or 22, and its k.
+// The productions of each nonterminal, linked in their order. Where there is none, the number of all productions stands.
+#[derive(Clone, Copy)]
+pub struct Links {
+    // of each production its left side
+    pub left: [usize; 512],
+    // and the next production of the same left side
+    pub next: [usize; 512],
+    // of each nonterminal its first production
+    pub first: [usize; 128],
+}
+
+// For each nonterminal its k, or why it has none, and k = 0 behind them. While k after k is tried, one that is open stands as if none served.
+pub type KAnswers = [Result<u64, Refusal>; 128];
+
+// What the call answers: how many nonterminals there are, and the answer for each.
 #[derive(Clone, Copy)]
 pub struct Needed {
-    pub refusal: u64,
     pub n: u64,
-    pub refusals: [u64; 128],
-    pub ks: [u64; 128],
+    pub answers: KAnswers,
 }
 
 // The grammar's nonterminals and productions; the result in blocks of b words, so many sets.
@@ -40,33 +52,35 @@ pub struct Layout {
     pub sets: usize,
 }
 
-// Passes refusal 11 on to the nonterminals that are open.
-fn pass_on(refusals: &mut [u64; 128], n: usize)
-    requires { (n ≤ 128) × Long refusals.old }
-    ensures { Passing n refusals.old refusals.new }
+// Whether no k has served yet and none was too large.
+fn is_open(answer: Result<u64, Refusal>) -> bool
+    ensures { Says result (refusal_in answer ≡ 22) }
 {
-    let mut a = 0;
-    while a < n {
-        if refusals[a] == 22 {
-            refusals[a] = 11;
-            a += 1;
-        } else {
-            a += 1;
+    answer == Err(Refusal::NoneServes)
+}
+
+// Passes the engine's refusal on to the nonterminals that are open.
+fn pass_on(answers: &mut KAnswers, n: usize)
+    requires { (n ≤ 128) × Long answers.old }
+    ensures passed { Passing n (refusals_in answers.old) (refusals_in answers.new) }
+    ensures ks { ks_in answers.new ≡ ks_in answers.old }
+{
+    for a in 0..n {
+        if is_open(answers[a]) {
+            answers[a] = Err(Refusal::SetTooLarge);
         }
     }
 }
 
 // Whether some nonterminal is open.
-fn some_open(refusals: &[u64; 128], n: usize) -> bool
+fn some_open(answers: &KAnswers, n: usize) -> bool
     requires { n ≤ 128 }
-    ensures { Sought n refusals.now result }
+    ensures { Sought n (refusals_in answers.now) result }
 {
-    let mut a = 0;
-    while a < n {
-        if refusals[a] == 22 {
+    for a in 0..n {
+        if is_open(answers[a]) {
             return true;
         }
-        a += 1;
     }
     false
 }
@@ -75,18 +89,17 @@ fn some_open(refusals: &[u64; 128], n: usize) -> bool
 fn try_sets(
     k: u64,
     u: Layout,
-    links: &[usize; 1152],
+    links: &Links,
     res: &mut [u64],
     scratch: &mut [u64],
-    refusals: &mut [u64; 128],
-    ks: &mut [u64; 128],
+    answers: &mut KAnswers,
 )
-    requires { (Ready u k res.old (take u.b scratch.old) × Fit u links.now) × ((u.b ≤ length scratch.old) × (Long refusals.old × Long ks.old)) }
-    ensures { SetsDone u links.now k refusals.old ks.old refusals.new ks.new res.old scratch.old res.new scratch.new }
+    requires { (Ready u k res.old (take u.b scratch.old) × Fit u links.now) × ((u.b ≤ length scratch.old) × Long answers.old) }
+    ensures { SetsDone u links.now k (refusals_in answers.old) (ks_in answers.old) (refusals_in answers.new) (ks_in answers.new) res.old scratch.old res.new scratch.new }
 {
     let b = u.b;
-    join_all(res, &mut scratch[..b], u, links, k, refusals);
-    decide(res, u, links, k, refusals, ks);
+    join_all(res, &mut scratch[..b], u, links, k, answers);
+    decide(res, u, links, k, answers);
 }
 
 // Tries k: one call of the engine, for all nonterminals.
@@ -96,21 +109,19 @@ fn try_k(
     c: u64,
     table: &[u8],
     u: Layout,
-    links: &[usize; 1152],
+    links: &Links,
     res: &mut [u64],
     scratch: &mut [u64],
-    refusals: &mut [u64; 128],
-    ks: &mut [u64; 128],
+    answers: &mut KAnswers,
 )
-    requires { (Given limit c table.now u links.now (length res.old) (length scratch.old) × ((1 ≤ k) × (k ≤ 10))) × (Long refusals.old × Long ks.old) }
-    ensures { KDone c (grammar_of table.now) k refusals.old ks.old refusals.new ks.new res.old scratch.old res.new scratch.new }
+    requires { (Given limit c table.now u links.now (length res.old) (length scratch.old) × ((1 ≤ k) × (k ≤ 10))) × Long answers.old }
+    ensures { KDone c (grammar_of table.now) k (refusals_in answers.old) (ks_in answers.old) (refusals_in answers.new) (ks_in answers.new) res.old scratch.old res.new scratch.new }
 {
-    let l = lookahead_sets(k, c, table, res, scratch);
-    if l.refusal != 0 {
-        pass_on(refusals, u.n);
+    if lookahead_sets(k, c, table, res, scratch).is_err() {
+        pass_on(answers, u.n);
         return;
     }
-    try_sets(k, u, links, res, scratch, refusals, ks);
+    try_sets(k, u, links, res, scratch, answers);
 }
 
 // Tries k = 1 up to the limit, while a nonterminal is open.
@@ -119,79 +130,42 @@ fn try_all(
     c: u64,
     table: &[u8],
     u: Layout,
-    links: &[usize; 1152],
+    links: &Links,
     res: &mut [u64],
     scratch: &mut [u64],
-    refusals: &mut [u64; 128],
-    ks: &mut [u64; 128],
+    answers: &mut KAnswers,
 )
-    requires { Given limit c table.now u links.now (length res.old) (length scratch.old) × StandAt c (grammar_of table.now) 0 refusals.old ks.old }
-    ensures { AllDone c (grammar_of table.now) limit refusals.new ks.new res.old scratch.old res.new scratch.new }
+    requires { Given limit c table.now u links.now (length res.old) (length scratch.old) × StandAt c (grammar_of table.now) 0 (refusals_in answers.old) (ks_in answers.old) }
+    ensures { AllDone c (grammar_of table.now) limit (refusals_in answers.new) (ks_in answers.new) res.old scratch.old res.new scratch.new }
 {
-    let n = u.n;
-    let mut k: u64 = 0;
-    while k < limit {
-        if some_open(refusals, n) {} else {
+    for k in 1..=limit {
+        if !some_open(answers, u.n) {
             return;
         }
-        k += 1;
-        try_k(k, limit, c, table, u, links, res, scratch, refusals, ks);
+        try_k(k, limit, c, table, u, links, res, scratch, answers);
     }
 }
 
-// The first words become zero.
-pub fn wipe(words: &mut [u64], needed: usize)
-    requires { needed ≤ length words.old }
-    ensures { words.new ≡ wiped needed words.old }
-{
-    k_tuples::set::clear(&mut words[..needed]);
-}
-
-// Answers every nonterminal, in buffers that are wiped at the end.
+// KAnswers every nonterminal, in buffers that are wiped at the end.
 fn answer_all(
     limit: u64,
     c: u64,
     table: &[u8],
     u: Layout,
-    links: &[usize; 1152],
+    links: &Links,
     res: &mut [u64],
     scratch: &mut [u64],
 ) -> Needed
     requires { Given limit c table.now u links.now (length res.old) (length scratch.old) }
-    ensures { AnsweredAll limit c (grammar_of table.now) res.old scratch.old result res.new scratch.new }
+    ensures { AnsweredAll limit c (grammar_of table.now) res.old scratch.old (recorded (Ok result)) res.new scratch.new }
 {
-    let mut refusals = begin(links, u.p, u.n);
-    let mut ks = [0u64; 128];
-    try_all(
-        limit,
-        c,
-        table,
-        u,
-        links,
-        res,
-        scratch,
-        &mut refusals,
-        &mut ks,
-    );
+    let mut answers = begin(links, u.p, u.n);
+    try_all(limit, c, table, u, links, res, scratch, &mut answers);
     wipe(res, u.sets * u.b);
     wipe(scratch, (2 * u.n + 4) * u.b);
     Needed {
-        refusal: 0,
         n: u.n as u64,
-        refusals,
-        ks,
-    }
-}
-
-// A refusal of the whole call, with every other number 0.
-fn refused(number: u64) -> Needed
-    ensures { result ≡ record_of (refused_by number) }
-{
-    Needed {
-        refusal: number,
-        n: 0,
-        refusals: [0; 128],
-        ks: [0; 128],
+        answers,
     }
 }
 
@@ -200,8 +174,8 @@ fn layout_of(limit: u64, c: u64, s: Shape, words: &[u16]) -> Layout
     requires { EngineReady limit c s words.now }
     ensures { Sized c (grammar_in s words.now) result }
 {
-    let n = wide(s.n);
-    let p = wide(s.p);
+    let n = usize::from(s.n);
+    let p = usize::from(s.p);
     let q = count_occurrences(words, s.p);
     let b = 2 * index(c) + 1;
     let sets = 2 * n + p + q;
@@ -217,73 +191,59 @@ fn on_grammar(
     words: &[u16],
     res: &mut [u64],
     scratch: &mut [u64],
-) -> Needed
+) -> Result<Needed, Refusal>
     requires { (EngineReady limit c s words.now × OnTable limit c table.now) × (grammar_of table.now ≡ grammar_in s words.now) }
-    ensures { Promised limit c table.now res.old scratch.old result res.new scratch.new }
+    ensures { Promised limit c table.now res.old scratch.old (recorded result) res.new scratch.new }
 {
     let u = layout_of(limit, c, s, words);
     if res.len() < u.sets * u.b {
-        return refused(10);
+        return Err(Refusal::LentTooFew);
     }
     if scratch.len() < (2 * u.n + 4) * u.b {
-        return refused(10);
+        return Err(Refusal::LentTooFew);
     }
     let links = link_all(words, u.p);
-    answer_all(limit, c, table, u, &links, res, scratch)
-}
-
-fn table_refusal(answer: TableAnswer) -> u64
-    ensures { result ≡ table_refusal answer }
-{
-    match answer {
-        TableAnswer::Table {
-            n: _,
-            t: _,
-            start: _,
-            p: _,
-            used: _,
-        } => 0,
-        TableAnswer::Refused(r) => r as u64,
-    }
+    Ok(answer_all(limit, c, table, u, &links, res, scratch))
 }
 
 // The answers for a table, for a limit and c in range.
-fn on_table(limit: u64, c: u64, table: &[u8], res: &mut [u64], scratch: &mut [u64]) -> Needed
+fn on_table(
+    limit: u64,
+    c: u64,
+    table: &[u8],
+    res: &mut [u64],
+    scratch: &mut [u64],
+) -> Result<Needed, Refusal>
     requires { ((1 ≤ limit) × (limit ≤ 10)) × ((1 ≤ c) × (c ≤ 1024)) }
-    ensures { Promised limit c table.now res.old scratch.old result res.new scratch.new }
+    ensures { Promised limit c table.now res.old scratch.old (recorded result) res.new scratch.new }
 {
     let mut words = [0u16; 5120];
-    let read = read_grammar(table, &mut words);
-    let TableAnswer::Table {
-        n,
-        t,
-        start,
-        p,
-        used,
-    } = read
-    else {
-        return refused(table_refusal(read));
-    };
-    let end = wide(used);
-    let s = Shape { n, t, start, p };
-    on_grammar(limit, c, table, s, &words[..end], res, scratch)
+    let read = read_grammar(table, &mut words)?;
+    let end = usize::from(read.used);
+    on_grammar(limit, c, table, read.shape, &words[..end], res, scratch)
 }
 
 // For each nonterminal of a table the smallest k up to the limit that it needs, with room for c members in each set. Both buffers are worked in.
-pub fn needed_k(limit: u64, c: u64, table: &[u8], res: &mut [u64], scratch: &mut [u64]) -> Needed
-    ensures { Promised limit c table.now res.old scratch.old result res.new scratch.new }
+pub fn needed_k(
+    limit: u64,
+    c: u64,
+    table: &[u8],
+    res: &mut [u64],
+    scratch: &mut [u64],
+) -> Result<Needed, Refusal>
+    ensures { Promised limit c table.now res.old scratch.old (recorded result) res.new scratch.new }
 {
     if limit < 1 {
-        return refused(1);
+        return Err(Refusal::KOutside);
     }
     if 10 < limit {
-        return refused(1);
+        return Err(Refusal::KOutside);
     }
     if c < 1 {
-        return refused(2);
+        return Err(Refusal::RoomOutside);
     }
     if 1024 < c {
-        return refused(2);
+        return Err(Refusal::RoomOutside);
     }
     on_table(limit, c, table, res, scratch)
 }

@@ -1,91 +1,81 @@
 // The productions of each nonterminal, linked in their order, and how the nonterminals stand before any k is tried.
-// One array has three columns: at i the left side of production i, at 512 + i the next production of the same left side, at 1,024 + a the first
-// production of nonterminal a. Where there is none, the number of all productions stands.
-ghost use Rattle.std.specs.Prelude.{◌≡◌, ◌+◌, ◌≤◌, ◌<◌};
+ghost use Rattle.std.specs.Prelude.{◌≡◌, ◌+◌, ◌≤◌, ◌<◌, replicate};
 ghost use Rattle.cfg.specs.Words.{Sound};
 ghost use Rattle.cfg.specs.Written.{productions_of};
+ghost use Rattle.decision.specs.Call.{refusal_in, k_in, refusals_in, ks_in};
 ghost use Rattle.decision.specs.Own.{Linked, LinkedFrom, Sided, AllLinked, LinkedOne, Begun, AllBegun};
 
+use crate::{KAnswers, Links};
 use cfg::table::span_at;
-
-pub fn wide(x: u16) -> usize
-    ensures { result ≡ x }
-{
-    x as usize
-}
+use refusals::Refusal;
 
 // The left side of each production, and no links.
-fn left_sides(words: &[u16], p: usize) -> [usize; 1152]
+fn left_sides(words: &[u16], p: usize) -> Links
     requires { Sound 128 p words.now × (p ≤ 512) }
     ensures { Sided (productions_of p words.now) p result }
 {
-    let mut links = [p; 1152];
+    let mut links = Links {
+        left: [0; 512],
+        next: [p; 512],
+        first: [p; 128],
+    };
     let mut at = 0;
-    let mut i = 0;
-    while i < p {
+    for i in 0..p {
         let span = span_at(words, at);
-        links[i] = wide(span.left);
+        links.left[i] = usize::from(span.left);
         at = span.to;
-        i += 1;
     }
     links
 }
 
 // Links production i, where those behind it are linked: it becomes the first of its left side, before the one that was.
-fn link_one(links: &mut [usize; 1152], p: usize, i: usize)
+fn link_one(links: &mut Links, p: usize, i: usize)
     requires { LinkedFrom links.old p (i + 1) × (i < p) }
     ensures { LinkedOne links.old p i links.new }
 {
-    let a = links[i];
-    let first = 1024 + a;
-    let next = 512 + i;
-    let behind = links[first];
-    links[next] = behind;
-    links[first] = i;
+    let a = links.left[i];
+    links.next[i] = links.first[a];
+    links.first[a] = i;
 }
 
 // The productions of a table's words, linked, from the last to the first.
-pub fn link_all(words: &[u16], p: usize) -> [usize; 1152]
+pub fn link_all(words: &[u16], p: usize) -> Links
     requires { Sound 128 p words.now × (p ≤ 512) }
     ensures { AllLinked (productions_of p words.now) p result }
 {
     let mut links = left_sides(words, p);
-    let mut i = p;
-    while 0 < i {
-        i -= 1;
+    for i in (0..p).rev() {
         link_one(&mut links, p, i);
     }
     links
 }
 
-// What a begins with: 0 where it has one production, else 22.
-fn begin_one(links: &[usize; 1152], p: usize, a: usize) -> u64
+// What a begins with: k = 0 where it has one production, else it is open.
+fn begin_one(links: &Links, p: usize, a: usize) -> Result<u64, Refusal>
     requires { Linked links.now p × (a < 128) }
-    ensures { Begun links.now p a result }
+    ensures begun { Begun links.now p a (refusal_in result) }
+    ensures k { k_in result ≡ 0 }
 {
-    let first = 1024 + a;
-    let i = links[first];
+    let i = links.first[a];
     if p <= i {
-        return 22;
+        return Err(Refusal::NoneServes);
     }
-    let next = 512 + i;
-    let j = links[next];
+    let j = links.next[i];
     if j < p {
-        return 22;
+        return Err(Refusal::NoneServes);
     }
-    0
+    Ok(0)
 }
 
 // What each of n nonterminals begins with.
-pub fn begin(links: &[usize; 1152], p: usize, n: usize) -> [u64; 128]
+pub fn begin(links: &Links, p: usize, n: usize) -> KAnswers
     requires { Linked links.now p × (n ≤ 128) }
-    ensures { AllBegun links.now p n result }
+    ensures begun { AllBegun links.now p n (refusals_in result) }
+    ensures ks { ks_in result ≡ replicate 128 0 }
 {
-    let mut refusals = [0u64; 128];
-    let mut a = 0;
-    while a < n {
-        refusals[a] = begin_one(links, p, a);
-        a += 1;
+    let mut answers = [Ok(0u64); 128];
+    for a in 0..n {
+        answers[a] = begin_one(links, p, a);
     }
-    refusals
+    answers
 }

@@ -8,77 +8,10 @@ use mathlib.Core.List.{List, []}
 use borrow.Author.Tests.{le-leb, lt-leb, lt-ltb, le-ltb, ne_eqb, leb-true, ltb-true}
 use lib.Dec.{leb, ltb, eqb}
 use lib.ListN.{length, take, drop}
-use Rattle.engine.specs.Ask.{kind_start, kind_count, in_limits, result_size, there_is, set_part}
-
--- a kind's first set, and how many there are
-module _ (kind n p : ℕ) where
-  pub start-0 : kind ≡ 0 → 0 ≡ kind_start kind n p
-  unfolding kind_start
-  start-0 e = rw e
-
-  pub start-1 : kind ≡ 1 → n ≡ kind_start kind n p
-  unfolding kind_start
-  start-1 e = rw e
-
-  pub start-2 : kind ≡ 2 → n + p ≡ kind_start kind n p
-  unfolding kind_start
-  start-2 e = rw e
-
-  pub start-other : (kind ≡ 0 → ⊥) → (kind ≡ 1 → ⊥) → (kind ≡ 2 → ⊥) → 2 * n + p ≡ kind_start kind n p
-  unfolding kind_start
-  start-other a b c = rw (ne_eqb kind 0 a, ne_eqb kind 1 b, ne_eqb kind 2 c)
-
-  module _ (q : ℕ) where
-    pub count-0 : kind ≡ 0 → n ≡ kind_count kind n p q
-    unfolding kind_count
-    count-0 e = rw e
-
-    pub count-1 : kind ≡ 1 → p ≡ kind_count kind n p q
-    unfolding kind_count
-    count-1 e = rw e
-
-    pub count-2 : kind ≡ 2 → n ≡ kind_count kind n p q
-    unfolding kind_count
-    count-2 e = rw e
-
-    pub count-3 : kind ≡ 3 → q ≡ kind_count kind n p q
-    unfolding kind_count
-    count-3 e = rw e
-
-    pub count-other : (kind ≡ 0 → ⊥) → (kind ≡ 1 → ⊥) → (kind ≡ 2 → ⊥) → (kind ≡ 3 → ⊥) → 0 ≡ kind_count kind n p q
-    unfolding kind_count
-    count-other a b c d = rw (ne_eqb kind 0 a, ne_eqb kind 1 b, ne_eqb kind 2 c, ne_eqb kind 3 d)
+use Rattle.std.specs.Prelude.{Option, Some, None}
+use Rattle.engine.specs.Ask.{kind_start, kind_count, in_limits, result_size, there_is, place_of, set_part}
 
 -- ---- limits
-
-module _ (n p q c : ℕ) where
-  pub n-none : n < 1 → false ≡ in_limits n p q c
-  unfolding in_limits
-  n-none h = rw (lt-leb 1 n h)
-
-  module _ (n1 : 1 ≤ n) where
-    pub n-many : 128 < n → false ≡ in_limits n p q c
-    unfolding in_limits
-    n-many h = rw (le-leb 1 n n1, lt-leb n 128 h)
-
-    module _ (n2 : n ≤ 128) where
-      pub p-many : 512 < p → false ≡ in_limits n p q c
-      unfolding in_limits
-      p-many h = rw (le-leb 1 n n1, le-leb n 128 n2, lt-leb p 512 h)
-
-      module _ (p2 : p ≤ 512) where
-        pub q-many : 4096 < q → false ≡ in_limits n p q c
-        unfolding in_limits
-        q-many h = rw (le-leb 1 n n1, le-leb n 128 n2, le-leb p 512 p2, lt-leb q 4096 h)
-
-        module _ (q2 : q ≤ 4096) where
-          pub c-none : c < 1 → false ≡ in_limits n p q c
-          unfolding in_limits
-          c-none h = rw (le-leb 1 n n1, le-leb n 128 n2, le-leb p 512 p2, le-leb q 4096 q2, lt-leb 1 c h)
-
-          pub c-some : 1 ≤ c → leb c 1024 ≡ in_limits n p q c
-          unfolding in_limits
-          c-some h = rw (le-leb 1 n n1, le-leb n 128 n2, le-leb p 512 p2, le-leb q 4096 q2, le-leb 1 c h)
 
 pub both : (a b : Bool) → (a && b) ≡ true → (a ≡ true) × (b ≡ true)
 both true b e = (refl, e)
@@ -106,23 +39,6 @@ limits {n} {p} {q} {c} e =
 pub kept : (n p q c : ℕ) (r : Bool) → r ≡ in_limits n p q c → r ≡ true → Limits n p q c
 kept n p q c r e f = limits (sym e ∙ f)
 
--- ---- there is such a set
-
-module _ (words kind number n p q c : ℕ) where
-  pub outside : {r : Bool} → r ≡ in_limits n p q c → r ≡ false → false ≡ there_is words kind number n p q c
-  unfolding there_is
-  outside e f = rw (sym e ∙ f)
-
-  module _ {r : Bool} (e : r ≡ in_limits n p q c) (inside : r ≡ true) where
-    module _ {m : ℕ} (count : m ≡ kind_count kind n p q) where
-      pub no_number : m ≤ number → false ≡ there_is words kind number n p q c
-      unfolding there_is
-      no_number h = rw (sym e ∙ inside, ← count, le-ltb number m h)
-
-      pub number-there : number < m → leb ((2 * n + p + q) * (2 * c + 1)) words ≡ there_is words kind number n p q c
-      unfolding there_is result_size
-      number-there h = rw (sym e ∙ inside, ← count, lt-ltb number m h)
-
 -- what it says
 pub record There (words kind number n p q c : ℕ) : Type 0 where
   pub inside : Limits n p q c
@@ -135,9 +51,6 @@ there {words} {kind} {number} {n} {p} {q} {c} e =
     let a = both (in_limits n p q c) _ e in
     let b = both (ltb number (kind_count kind n p q)) _ a.1 in
     record { inside = limits a.0; below = ltb-true number (kind_count kind n p q) b.0; whole = leb-true ((2 * n + p + q) * (2 * c + 1)) words b.1 }
-
-pub known-there : (words kind number n p q c : ℕ) (r : Bool) → r ≡ there_is words kind number n p q c → r ≡ true → There words kind number n p q c
-known-there words kind number n p q c r e f = there (sym e ∙ f)
 
 -- the sets of each kind stand behind those of the kinds before it
 pub place_inside : (kind number n p q : ℕ) → number < kind_count kind n p q → kind_start kind n p + number < 2 * n + p + q
@@ -161,24 +74,88 @@ pub record Inside (place size words : ℕ) : Type 0 where
   pub within : place * size + size ≤ words
   pub few : place * size + size ≤ 9966336
 
-pub inside : {words kind number n p q c start : ℕ} → There words kind number n p q c → start ≡ kind_start kind n p → Inside (start + number) (2 * c + 1) words
-inside {words} {kind} {number} {n} {p} {q} {c} {start} t e =
+pub inside_words : {words kind number n p q c start : ℕ} → There words kind number n p q c → start ≡ kind_start kind n p → Inside (start + number) (2 * c + 1) words
+inside_words {words} {kind} {number} {n} {p} {q} {c} {start} t e =
     let few = sets-few n p q c t.inside in
     let below : start + number < 2 * n + p + q = rw e (place_inside kind number n p q t.below) in
     let all = mul-le-mul_right (2 * c + 1) below in
     let more = suc-mul (start + number) (2 * c + 1) in
     record { set = omega (arith, t.inside); within = omega (arith, t.whole); few = omega arith }
 
+-- ---- there is such a set
+
+-- a number over 3 names no kind, of which there are sets
+unknown : (kind n p q : ℕ) → 3 < kind → 0 ≡ kind_count kind n p q
+unfolding kind_count
+unknown kind n p q h = rw (ne_eqb kind 0 (λ e. omega arith), ne_eqb kind 1 (λ e. omega arith), ne_eqb kind 2 (λ e. omega arith), ne_eqb kind 3 (λ e. omega arith))
+
+module _ (words kind number n p q c : ℕ) {r : Bool} (e : r ≡ in_limits n p q c) where
+  pub outside : r ≡ false → None ≡ place_of words kind number n p q c
+  unfolding there_is
+  outside f = rw (sym e ∙ f)
+
+  module _ (inside : r ≡ true) where
+    no_number : {m : ℕ} → m ≡ kind_count kind n p q → m ≤ number → None ≡ place_of words kind number n p q c
+    unfolding there_is
+    no_number {m} count h = rw (sym e ∙ inside, ← count, le-ltb number m h)
+
+    pub no-kind : 3 < kind → None ≡ place_of words kind number n p q c
+    no-kind h = no_number (unknown kind n p q h) (omega arith)
+
+    -- a kind by its number j, and how many sets there are of it
+    module _ {j : ℕ} (is : kind ≡ j) {m : ℕ} (count : m ≡ kind_count j n p q) where
+      pub too-high : m ≤ number → None ≡ place_of words kind number n p q c
+      too-high h = no_number (rw is count) h
+
+      module _ (low : number < m) where
+        whole : leb ((2 * n + p + q) * (2 * c + 1)) words ≡ there_is words kind number n p q c
+        unfolding there_is result_size
+        whole = rw (sym e ∙ inside, is, ← count, lt-ltb number m low)
+
+        pub too_short : words < (2 * n + p + q) * (2 * c + 1) → None ≡ place_of words kind number n p q c
+        too_short h = rw (← whole, lt-leb _ words h)
+
+        module _ (long : (2 * n + p + q) * (2 * c + 1) ≤ words) where
+          all-there : there_is words kind number n p q c ≡ true
+          all-there = sym whole ∙ le-leb _ words long
+
+          pub is-there : There words kind number n p q c
+          is-there = there all-there
+
+          pub found : {start : ℕ} → start ≡ kind_start j n p → Some ((start + number) * (2 * c + 1)) ≡ place_of words kind number n p q c
+          found s = rw (all-there, s, is)
+
+          pub found-inside : {start : ℕ} → start ≡ kind_start j n p → Inside (start + number) (2 * c + 1) words
+          found-inside s = inside_words is-there (rw is s)
+
 -- ---- the part
 
-module _ (kind number n p q c : ℕ) (ws : List ℕ) {r : Bool} (e : r ≡ there_is (length ws) kind number n p q c) where
-  pub none-there : r ≡ false → [] ≡ set_part kind number n p q c ws
-  unfolding set_part
-  none-there f = rw (sym e ∙ f)
+module _ (words kind number n p q c : ℕ) {at : ℕ} (e : Some at ≡ place_of words kind number n p q c) where
+  -- there is such a set, and it begins there
+  placed : (there_is words kind number n p q c ≡ true) × (at ≡ (kind_start kind n p + number) * (2 * c + 1))
+  placed = by (there_is words kind number n p q c) refl e
+    where
+      by : (b : Bool) → there_is words kind number n p q c ≡ b → Some at ≡ cond b (Some ((kind_start kind n p + number) * (2 * c + 1))) None
+          → (there_is words kind number n p q c ≡ true) × (at ≡ (kind_start kind n p + number) * (2 * c + 1))
+      by true t e = (t, cc)
+      by false t e = cc
 
-  pub part-there : {start : ℕ} → r ≡ true → start ≡ kind_start kind n p
-      → take ((start + number) * (2 * c + 1) + (2 * c + 1) - (start + number) * (2 * c + 1)) (drop ((start + number) * (2 * c + 1)) ws) ≡ set_part kind number n p q c ws
+  -- the set lies within the words, and they are few
+  pub placed-inside : (at + (2 * c + 1) ≤ words) × (at + (2 * c + 1) ≤ 9966336)
+  placed-inside = let i = inside_words (there placed.0) refl in rw placed.1 (i.within, i.few)
+
+module _ (kind number n p q c : ℕ) (ws : List ℕ) where
+  pub none-there : None ≡ place_of (length ws) kind number n p q c → [] ≡ set_part kind number n p q c ws
   unfolding set_part
-  part-there {start} f s =
-      let z : (start + number) * (2 * c + 1) + (2 * c + 1) - (start + number) * (2 * c + 1) ≡ 2 * c + 1 = omega arith in
-      rw (sym e ∙ f, z, s)
+  none-there = by (there_is (length ws) kind number n p q c)
+    where
+      by : (b : Bool) → ◌≡◌ {A = Option ℕ} None (cond b (Some ((kind_start kind n p + number) * (2 * c + 1))) None) → [] ≡ cond b (take (2 * c + 1) (drop ((kind_start kind n p + number) * (2 * c + 1)) ws)) []
+      by true e = cc
+      by false e = refl
+
+  pub part-there : {at : ℕ} → Some at ≡ place_of (length ws) kind number n p q c → take (at + 2 * c + 1 - at) (drop at ws) ≡ set_part kind number n p q c ws
+  unfolding set_part
+  part-there {at} e =
+      let is = placed (length ws) kind number n p q c e in
+      let size : at + 2 * c + 1 - at ≡ 2 * c + 1 = omega arith in
+      rw (size, is.0, is.1)

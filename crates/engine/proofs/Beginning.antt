@@ -5,6 +5,9 @@ use native.Mathlib.Omega.{arith}
 use mathlib.Core.Path.{◌≡◌, refl, sym, ap, ◌∙◌, subst}
 use mathlib.Core.List.{List, [], ◌∷◌, ◌++◌}
 use lib.ListN.{length, take, drop, replicate, take-append-drop}
+use Rattle.std.specs.Prelude.{Result, Ok, Err}
+use Rattle.refusals.specs.Numbers.{number}
+use Rattle.refusals.specs.declared.Refusal.{Refusal}
 use Rattle.cfg.specs.Written.{productions_of, occurrences}
 use Rattle.cfg.proofs.Sizes.{length-productions}
 use Rattle.k_tuple.specs.Strings.{places, width_of}
@@ -20,7 +23,6 @@ use Rattle.analysis.specs.Analysis.{Analysis, work, result_needs, scratch_needs}
 use Rattle.analysis.proofs.Counts.{occurrences-count}
 use Rattle.analysis.proofs.Kept.{answers-right}
 use Rattle.first.specs.declared.Setup.{Setup}
-use Rattle.first.specs.declared.level.LevelRounds.{LevelRounds}
 use Rattle.first.specs.Steps.{old_sets, room, Free}
 use Rattle.first.specs.Steps as Steps
 use Rattle.first.specs.Rounds.{Rules}
@@ -28,12 +30,12 @@ use Rattle.first.specs.Rounds as Rounds
 use Rattle.first.specs.Levels.{LevelsRun}
 use Rattle.first.proofs.Walk.{zeros-ready}
 use Rattle.first.proofs.Levels.{moved_ready}
-use Rattle.engine.specs.declared.Lookahead.{Lookahead}
-use Rattle.engine.specs.declared.Shape.{Shape}
-use Rattle.engine.specs.Call.{answer_of, sets_of, wiped}
+use Rattle.cfg.specs.declared.table.Shape.{Shape}
+use Rattle.engine.specs.Call.{Record, record_of, answer_of, sets_of, wiped}
 use Rattle.engine.specs.Steps.{grammar_in, Ready, Clean, Ran}
 use Rattle.engine.specs.Runs.{setup_of, finished, Begun, Rest, rest_of, rest_for, RestRan}
 use Rattle.engine.proofs.Needed.{productions-few}
+use Rattle.engine.proofs.Running.{refused_record}
 
 pub room-is : (c : ℕ) → c < 4294967296 → room_of (2 * c + 1) ≡ c
 unfolding room_of
@@ -80,29 +82,29 @@ module _ {k c : ℕ} {s : Shape} {words : List ℕ} (ready : Ready k c s words) 
 
     -- ---- behind the levels
 
-    module _ {at : ℕ} {l : LevelRounds} {result₁ scratch₁ : List ℕ} (run : LevelsRun (setup_of c s q) at k (first c (grammar_in s words) k) l result scratch result₁ scratch₁) where
-      past : drop (result_needs c (grammar_in s words)) result₁ ≡ drop (result_needs c (grammar_in s words)) result
-      past = subst (λ (m : ℕ). drop m result₁ ≡ drop m result) result-size run.result-beyond
-
-      refused-there : {r : Lookahead} → (l.refusal ≡ 0 → ⊥) → r ≡ answer_of (refused l.refusal) → Ran k c (grammar_in s words) result scratch r result₁ scratch₁
+    module _ {at : ℕ} {result₁ scratch₁ : List ℕ} where
+      refused-there : {e : Refusal} → LevelsRun (setup_of c s q) at k (first c (grammar_in s words) k) (Err e) result scratch result₁ scratch₁
+          → Ran k c (grammar_in s words) result scratch (record_of (Err e)) result₁ scratch₁
       unfolding work
-      refused-there z a =
-          let e = (run.refusal z).0 in
+      refused-there {e} run =
           record {
-            answer = a ∙ rw e;
-            sets = λ x w. let no : ◌≡◌ {A = Answer Analysis} (refused l.refusal) (got x) = rw e at w in not-got no;
-            result-beyond = past;
+            answer = refused_record e ∙ rw run.ends;
+            sets = λ x w. let no : ◌≡◌ {A = Answer Analysis} (refused (number e)) (got x) = rw run.ends at w in not-got no;
+            result-beyond = subst (λ (m : ℕ). drop m result₁ ≡ drop m result) result-size run.result-beyond;
             scratch-beyond = run.scratch-beyond;
           }
 
-      begun-there : l.refusal ≡ 0 → Begun (setup_of c s q) k words result₁ scratch₁
-      begun-there z = record {
-        ready = moved_ready (run.done z).moved (first-ready refl) ready.k>0 ready.k<11;
-        rules = first-rules refl;
-        sets = omega (arith, occurrences-are);
-      }
+      module _ {rounds : List ℕ} (run : LevelsRun (setup_of c s q) at k (first c (grammar_in s words) k) (Ok rounds) result scratch result₁ scratch₁) where
+        past : drop (result_needs c (grammar_in s words)) result₁ ≡ drop (result_needs c (grammar_in s words)) result
+        past = subst (λ (m : ℕ). drop m result₁ ≡ drop m result) result-size run.result-beyond
 
-      module _ (z : l.refusal ≡ 0) where
+        begun-there : Begun (setup_of c s q) k words result₁ scratch₁
+        begun-there = record {
+          ready = moved_ready run.ends.moved (first-ready refl) ready.k>0 ready.k<11;
+          rules = first-rules refl;
+          sets = omega (arith, occurrences-are);
+        }
+
         X : State
         X = old_sets (setup_of c s q) result₁
 
@@ -113,7 +115,7 @@ module _ {k c : ℕ} {s : Shape} {words : List ℕ} (ready : Ready k c s words) 
           p = length (productions_of s.p words);
           q = length (occurrences_of (productions_of s.p words));
           width = width_of (s.t + 5);
-          rounds = take k l.rounds;
+          rounds = take k rounds;
           follow_rounds = x.follow_rounds;
           nonterminals = X;
           productions = x.productions;
@@ -123,7 +125,7 @@ module _ {k c : ℕ} {s : Shape} {words : List ℕ} (ready : Ready k c s words) 
 
         work-is : work k c (grammar_in s words) ≡ (rest_of c k (grammar_in s words) X >>= λ x. got (whole x))
         unfolding work rest_of whole X
-        work-is = rw (run.done z).made (assoc (production_sets c k X (productions_of s.p words)) (follow c k (grammar_in s words) X) (λ F. position_sets c k X (occurrences_of (productions_of s.p words)) F))
+        work-is = rw run.ends.made (assoc (production_sets c k X (productions_of s.p words)) (follow c k (grammar_in s words) X) (λ F. position_sets c k X (occurrences_of (productions_of s.p words)) F))
           where
             assoc : (P : Answer State) (F : Answer Settling) (Q : State → Answer State)
                 → (P >>= λ p. F >>= λ f. Q f.sets >>= λ z. got (whole (record { productions = p; follows = f.sets; follow_rounds = f.rounds; positions = z })))
@@ -138,20 +140,20 @@ module _ {k c : ℕ} {s : Shape} {words : List ℕ} (ready : Ready k c s words) 
                 by (got z) = refl
 
         -- the rounds are those of the levels that were run, and then zeros
-        rounds-are : (x : Rest) → work k c (grammar_in s words) ≡ got (whole x) → places 10 (take k l.rounds) ≡ l.rounds
+        rounds-are : (x : Rest) → work k c (grammar_in s words) ≡ got (whole x) → places 10 (take k rounds) ≡ rounds
         unfolding whole
         rounds-are x w =
-            let few : length (take k l.rounds) ≡ k = (answers-right (grammar_in s words) k c ready.accepted ready.k>0 ready.c>0 (whole x) w).level-rounds.one_each in
-            places-padded 10 (take k l.rounds) (omega (arith, ready.k<11))
-            ∙ ap (λ (m : ℕ). take k l.rounds ++ replicate (10 - m) 0) few
-            ∙ ap (λ (zs : List ℕ). take k l.rounds ++ zs) (sym (run.done z).unused)
-            ∙ take-append-drop k l.rounds
+            let few : length (take k rounds) ≡ k = (answers-right (grammar_in s words) k c ready.accepted ready.k>0 ready.c>0 (whole x) w).level-rounds.one_each in
+            places-padded 10 (take k rounds) (omega (arith, ready.k<11))
+            ∙ ap (λ (m : ℕ). take k rounds ++ replicate (10 - m) 0) few
+            ∙ ap (λ (zs : List ℕ). take k rounds ++ zs) (sym run.ends.unused)
+            ∙ take-append-drop k rounds
 
-        told-whole : (x : Rest) → work k c (grammar_in s words) ≡ got (whole x) → finished (setup_of c s q) q l.rounds x.follow_rounds ≡ answer_of (got (whole x))
+        told-whole : (x : Rest) → work k c (grammar_in s words) ≡ got (whole x) → finished (setup_of c s q) q rounds x.follow_rounds ≡ answer_of (got (whole x))
         unfolding answer_of whole
         told-whole x w = rw (rounds-are x w, length-productions s.p words, occurrences-are)
 
-        module _ {r : Lookahead} {result₂ scratch₂ : List ℕ} (rest : RestRan (setup_of c s q) k q l.rounds words result₁ scratch₁ r result₂ scratch₂) where
+        module _ {r : Record} {result₂ scratch₂ : List ℕ} (rest : RestRan (setup_of c s q) k q rounds words result₁ scratch₁ r result₂ scratch₂) where
           rest-room : rest_for (setup_of c s q) k words result₁ ≡ rest_of c k (grammar_in s words) X
           unfolding X
           rest-room = ap (λ (d : ℕ). rest_of d k (grammar_in s words) (old_sets (setup_of c s q) result₁)) (room-is c (omega (arith, ready.c<1025)))
@@ -194,19 +196,21 @@ module _ {k c : ℕ} {s : Shape} {words : List ℕ} (ready : Ready k c s words) 
 
     -- ---- as the function goes
 
-    module _ {u : Setup} (e : u ≡ setup_of c s q) {at j : ℕ} (same : j ≡ k) {l : LevelRounds} {result₁ scratch₁ : List ℕ}
-        (run : LevelsRun u at j (first (room u) (Rounds.grammar_in u words) j) l result scratch result₁ scratch₁) where
-      run-there : LevelsRun (setup_of c s q) at k (first c (grammar_in s words) k) l result scratch result₁ scratch₁
-      run-there =
+    module _ {u : Setup} (e : u ≡ setup_of c s q) {at j : ℕ} (same : j ≡ k) {result₁ scratch₁ : List ℕ} where
+      run-there : {l : Result (List ℕ) Refusal} → LevelsRun u at j (first (room u) (Rounds.grammar_in u words) j) l result scratch result₁ scratch₁
+          → LevelsRun (setup_of c s q) at k (first c (grammar_in s words) k) l result scratch result₁ scratch₁
+      run-there {l} run =
           let here : LevelsRun (setup_of c s q) at j (first (room_of (2 * c + 1)) (grammar_in s words) j) l result scratch result₁ scratch₁ = rw e at run in
           rw (room-is c (omega (arith, ready.c<1025)), same) at here
 
-      pub levels-refused : {r : Lookahead} → (l.refusal ≡ 0 → ⊥) → r ≡ answer_of (refused l.refusal) → Ran k c (grammar_in s words) result scratch r result₁ scratch₁
-      levels-refused z a = refused-there run-there z a
+      pub levels-refused : {e : Refusal} → LevelsRun u at j (first (room u) (Rounds.grammar_in u words) j) (Err e) result scratch result₁ scratch₁
+          → Ran k c (grammar_in s words) result scratch (record_of (Err e)) result₁ scratch₁
+      levels-refused run = refused-there (run-there run)
 
-      pub levels-begun : l.refusal ≡ 0 → Begun u k words result₁ scratch₁
-      levels-begun z = rw e (begun-there run-there z)
+      module _ {rounds : List ℕ} (run : LevelsRun u at j (first (room u) (Rounds.grammar_in u words) j) (Ok rounds) result scratch result₁ scratch₁) where
+        pub levels-begun : Begun u k words result₁ scratch₁
+        levels-begun = rw e (begun-there (run-there run))
 
-      pub levels-done : {r : Lookahead} {result₂ scratch₂ : List ℕ} → l.refusal ≡ 0 → RestRan u k q l.rounds words result₁ scratch₁ r result₂ scratch₂
-          → Ran k c (grammar_in s words) result scratch r result₂ scratch₂
-      levels-done z rest = done-there run-there z (rw e at rest)
+        pub levels-done : {r : Record} {result₂ scratch₂ : List ℕ} → RestRan u k q rounds words result₁ scratch₁ r result₂ scratch₂
+            → Ran k c (grammar_in s words) result scratch r result₂ scratch₂
+        levels-done rest = done-there (run-there run) (rw e at rest)

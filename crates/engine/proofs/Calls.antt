@@ -16,20 +16,19 @@ use Rattle.cfg.proofs.Refusals.{table-refusals}
 use Rattle.cfg.proofs.Meaning.{TableRead, table-read, Tested, unproductive-eight, left-recursive-nine, passed_none, tested}
 use Rattle.k_tuples.specs.Work.{Answer, refused}
 use Rattle.analysis.specs.Analysis.{Analysis, analyse, result_needs, scratch_needs}
-use Rattle.engine.specs.declared.Lookahead.{Lookahead}
-use Rattle.engine.specs.Call.{answer_of, result_needed, scratch_needed, result_after, scratch_after, Left, Promised}
+use Rattle.engine.specs.Call.{Record, answer_of, result_needed, scratch_needed, result_after, scratch_after, Left, Promised}
 use Rattle.engine.specs.Steps.{on_grammar, Worked, Asked}
 
 -- ---- refusals 1 to 10 leave the words as they came
 
-pub untouched : {m : Answer Analysis} {k c needed needed' r : ℕ} {x : Lookahead} (result scratch : List ℕ) → r ≤ 10 → m ≡ refused r → x ≡ answer_of (refused r)
+pub untouched : {m : Answer Analysis} {k c needed needed' r : ℕ} {x : Record} (result scratch : List ℕ) → r ≤ 10 → m ≡ refused r → x ≡ answer_of (refused r)
     → Left m k c needed needed' result scratch x result scratch
 unfolding result_after scratch_after
 untouched {r = r} result scratch h e a = rw e (record { answer = a; result_words = rw (le-leb r 10 h); scratch-words = rw (le-leb r 10 h) })
 
 -- ---- the tests of k and c
 
-module _ (k c : ℕ) (table result scratch : List ℕ) {x : Lookahead} where
+module _ (k c : ℕ) (table result scratch : List ℕ) {x : Record} where
   pub k-low : k < 1 → x ≡ answer_of (refused 1) → Promised k c table result scratch x result scratch
   unfolding analyse
   k-low h a = untouched result scratch (omega arith) (rw (lt-leb 1 k h)) a
@@ -72,7 +71,7 @@ refusal-small table r e = by (read_table table) refl e
             let t = table-read table g next f in
             subst (λ (s : ℕ). s ≤ 9) same (tested-small g t (test_refusal g.productions g.n) (tested g t.numbered))
 
-module _ (k c : ℕ) (table result scratch : List ℕ) (k>0 : 1 ≤ k) (k<11 : k ≤ 10) (c>0 : 1 ≤ c) (c<1025 : c ≤ 1024) {x : Lookahead} where
+module _ (k c : ℕ) (table result scratch : List ℕ) (k>0 : 1 ≤ k) (k<11 : k ≤ 10) (c>0 : 1 ≤ c) (c<1025 : c ≤ 1024) {x : Record} where
   pub table-refused : (r : ℕ) → unread r ≡ accept_table table → x ≡ answer_of (refused r) → Promised k c table result scratch x result scratch
   unfolding analyse
   table-refused r e a =
@@ -87,7 +86,7 @@ module _ (k c : ℕ) (table result scratch : List ℕ) (k>0 : 1 ≤ k) (k<11 : k
 
 -- ---- the lent words
 
-module _ (k c : ℕ) (g : Grammar) (result scratch : List ℕ) {x : Lookahead} where
+module _ (k c : ℕ) (g : Grammar) (result scratch : List ℕ) {x : Record} where
   pub result-short : {needed : ℕ} → needed ≡ result_needs c g → length result < needed → x ≡ answer_of (refused 10) → Asked k c g result scratch x result scratch
   unfolding on_grammar
   result-short {needed} e h a = untouched result scratch (omega arith) (rw (← e, lt-leb needed (length result) h)) a

@@ -22,9 +22,8 @@ use Rattle.analysis.specs.Analysis.{Analysis, analyse}
 use Rattle.analysis.specs.Promises.{EnoughRoom, IsSetOf, Analysed, Between, IsTableOf, EnoughWords, Verdict}
 use Rattle.analysis.proofs.Kept.{not-refused, answers-right}
 use Rattle.analysis.proofs.Verdict.{answers-all, one_answer}
-use Rattle.engine.specs.declared.Lookahead.{Lookahead}
 use Rattle.engine.specs.Ask.{set_part}
-use Rattle.engine.specs.Call.{answer_of, result_needed, result_after, Promised, of_kind}
+use Rattle.engine.specs.Call.{Record, answer_of, result_needed, result_after, Promised, of_kind}
 use Rattle.engine.specs.Demands.{Demand1, Gives, right_of, position_of, Demand23, Demanded}
 use Rattle.engine.proofs.Got.{analyse-got}
 use Rattle.engine.proofs.Asked.{asked-kept, asked, counted}
@@ -32,7 +31,7 @@ use Rattle.engine.proofs.Beginning.{places-padded}
 
 -- ---- one outcome
 
-pub call-one : (k c : ℕ) (table result scratch : List ℕ) {r s : Lookahead} {R S R' S' : List ℕ} → Promised k c table result scratch r R S → Promised k c table result scratch s R' S'
+pub call-one : (k c : ℕ) (table result scratch : List ℕ) {r s : Record} {R S R' S' : List ℕ} → Promised k c table result scratch r R S → Promised k c table result scratch s R' S'
     → (r ≡ s) × (R ≡ R') × (S ≡ S')
 call-one k c table result scratch p q = (p.answer ∙ sym q.answer, p.result_words ∙ sym q.result_words, p.scratch-words ∙ sym q.scratch-words)
 
@@ -45,15 +44,15 @@ each_index d (each_more r rest) zero h = r
 each_index d (each_more r rest) (suc i) h = each_index d rest i (le_of_suc-le-suc h)
 
 -- the number that a case is told by
-refusal-of : {r : Lookahead} {m : Answer Analysis} {i : ℕ} → r ≡ answer_of m → m ≡ refused i → r.refusal ≡ i
+refusal-of : {r : Record} {m : Answer Analysis} {i : ℕ} → r ≡ answer_of m → m ≡ refused i → r.refusal ≡ i
 unfolding answer_of
-refusal-of e f = ap (λ (x : Lookahead). x.refusal) (e ∙ ap answer_of f)
+refusal-of e f = ap (λ (x : Record). x.refusal) (e ∙ ap answer_of f)
 
-no-refusal : {r : Lookahead} {m : Answer Analysis} {a : Analysis} → r ≡ answer_of m → m ≡ got a → r.refusal ≡ 0
+no-refusal : {r : Record} {m : Answer Analysis} {a : Analysis} → r ≡ answer_of m → m ≡ got a → r.refusal ≡ 0
 unfolding answer_of
-no-refusal e f = ap (λ (x : Lookahead). x.refusal) (e ∙ ap answer_of f)
+no-refusal e f = ap (λ (x : Record). x.refusal) (e ∙ ap answer_of f)
 
-module _ (k c : ℕ) (table result scratch : List ℕ) (r : Lookahead) (R S : List ℕ) (p : Promised k c table result scratch r R S) where
+module _ (k c : ℕ) (table result scratch : List ℕ) (r : Record) (R S : List ℕ) (p : Promised k c table result scratch r R S) where
   abbrev answer : Answer Analysis
   answer = analyse k c table (length result) (length scratch)
 
@@ -118,13 +117,13 @@ module _ (k c : ℕ) (table result scratch : List ℕ) (r : Lookahead) (R S : Li
     rounds-are =
         let k-rounds = is.level-rounds.one_each in
         let most = (analyse-got k c table (length result) (length scratch) a e).k<11 in
-        ap (λ (x : Lookahead). take k x.rounds) answer-is
+        ap (λ (x : Record). take k x.rounds) answer-is
         ∙ ap (take k) (places-padded 10 a.rounds (omega arith))
         ∙ take_at a.rounds _ k k-rounds
 
     follow-is : r.follow ≡ a.follow_rounds
     unfolding answer_of
-    follow-is = ap (λ (x : Lookahead). x.follow) answer-is
+    follow-is = ap (λ (x : Record). x.follow) answer-is
 
     kept : IsTableOf g table → Accepted g → Demand23 k c table r R
     unfolding of_kind answer_of
@@ -136,10 +135,10 @@ module _ (k c : ℕ) (table result scratch : List ℕ) (r : Lookahead) (R S : Li
           g = g;
           table_of = written;
           accepted = ok;
-          n = ap (λ (x : Lookahead). x.n) answer-is ∙ is.sizes.n;
-          p = ap (λ (x : Lookahead). x.p) answer-is ∙ is.sizes.p;
-          q = ap (λ (x : Lookahead). x.q) answer-is ∙ is.sizes.q;
-          width = ap (λ (x : Lookahead). x.width) answer-is ∙ is.sizes.width;
+          n = ap (λ (x : Record). x.n) answer-is ∙ is.sizes.n;
+          p = ap (λ (x : Record). x.p) answer-is ∙ is.sizes.p;
+          q = ap (λ (x : Record). x.q) answer-is ∙ is.sizes.q;
+          width = ap (λ (x : Record). x.width) answer-is ∙ is.sizes.width;
           firsts = a.nonterminals;
           first = λ A h. gives 0 A (First g k (nonterminal A ∷ [])) (rw is.sizes.nonterminals h) (is.first-sets A h);
           first-by-aho-ullman = is.first-sets-by-aho-ullman;

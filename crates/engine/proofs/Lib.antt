@@ -9,3 +9,4 @@ pub mod Got
 pub mod Sets
 pub mod Asked
 pub mod Demands
+pub mod Known

@@ -9,7 +9,7 @@ use Rattle.cfg.proofs.Sizes.{length-productions}
 use Rattle.cfg.proofs.Tests.{sound-wider}
 use Rattle.analysis.specs.Analysis.{result_needs}
 use Rattle.analysis.proofs.Counts.{occurrences-count}
-use Rattle.engine.specs.declared.Shape.{Shape}
+use Rattle.cfg.specs.declared.table.Shape.{Shape}
 use Rattle.engine.specs.Steps.{grammar_in, Ready}
 
 module _ {k c : ℕ} {s : Shape} {words : List ℕ} (ready : Ready k c s words) where

@@ -1,8 +1,11 @@
 -- The work behind FIRST of the nonterminals, put together from its steps. Assumes nothing.
 use Prim.Native.Nat.{ℕ, ◌+◌, ◌*◌, ◌≤◌}
 use native.Mathlib.Omega.{arith}
-use mathlib.Core.Path.{◌≡◌, sym, ap, ap₂, ◌∙◌, subst}
-use mathlib.Core.Bool.{Bool, true, false}
+use mathlib.Core.Path.{◌≡◌, refl, sym, ap, ap₂, ◌∙◌, subst}
+use Rattle.std.specs.Prelude.{Ok, Err}
+use Rattle.refusals.specs.Numbers.{number}
+use Rattle.refusals.specs.declared.Refusal.{Refusal}
+use Rattle.refusals.specs.declared.Refusal.TheVariants.{SetTooLarge}
 use mathlib.Core.List.{List, ◌++◌, append_assoc}
 use lib.ListN.{length, take, drop, length-append, length-drop}
 use lib.Seq.{take_at, length-take-le}
@@ -18,15 +21,12 @@ use Rattle.first.specs.Steps.{result_sets, old_sets, past_result, past_scratch, 
 use Rattle.first.specs.Rounds.{grammar_in}
 use Rattle.first.specs.Levels.{Production, Produced}
 use Rattle.follow_theory.specs.Follow.{occurrences_of, follow, position_sets}
-use Rattle.first.specs.declared.Ending.{Ending}
-use Rattle.first.specs.declared.Ending.TheVariants.{Settled, Refused}
 use Rattle.follow.specs.Steps.{Grammatical, first_sets}
 use Rattle.follow.specs.Whole.{Positioned, PositionsDone}
-use Rattle.engine.specs.declared.Lookahead.{Lookahead}
-use Rattle.engine.specs.declared.Shape.{Shape}
+use Rattle.cfg.specs.declared.table.Shape.{Shape}
 use Rattle.k_tuple.specs.Strings.{width_of}
-use Rattle.engine.specs.Call.{answer_of}
-use Rattle.engine.specs.Runs.{setup_of, told_of, finished, Begun, Rest, rest_of, rest_for, RestRan}
+use Rattle.engine.specs.Call.{record_of, answer_of}
+use Rattle.engine.specs.Runs.{setup_of, finished, Begun, Rest, rest_of, rest_for, RestRan}
 
 -- a refusal stays, whatever follows
 refused-more : {A B C : Type 0} {e : ℕ} (m : Answer A) (f : A → Answer B) (h : A → B → Answer C) → (m >>= f) ≡ refused e → (m >>= λ a. f a >>= h a) ≡ refused e
@@ -37,6 +37,11 @@ refused-more {e = e} (got a) f h z = by (f a) (h a) z
     by (refused s) h z = let same : s ≡ e = cc in ap refused same
     by (got b) h z = not-got (sym z)
 
+-- a refusal in numbers
+pub refused_record : (e : Refusal) → record_of (Err e) ≡ answer_of (refused (number e))
+unfolding answer_of
+refused_record e = refl
+
 abbrev prods : Setup → ℕ → (words result : List ℕ) → Answer State
 prods u k words result = production_sets (room u) k (old_sets u result) (grammar_in u words).productions
 
@@ -45,12 +50,12 @@ module _ {u : Setup} {k : ℕ} {words result scratch : List ℕ} (begun : Begun 
   productions-fit = omega (arith, begun.sets)
 
   -- a production's set passed its room
-  pub production-full : (q : ℕ) (rounds : List ℕ) {full : Bool} {result₁ scratch₁ : List ℕ} {r : Lookahead} → Produced u k (prods u k words result) full result scratch result₁ scratch₁
-      → full ≡ true → r ≡ answer_of (refused 11) → RestRan u k q rounds words result scratch r result₁ scratch₁
+  pub production-full : (q : ℕ) (rounds : List ℕ) {e : Refusal} {result₁ scratch₁ : List ℕ} → Produced u k (prods u k words result) (Err e) result scratch result₁ scratch₁
+      → RestRan u k q rounds words result scratch (record_of (Err e)) result₁ scratch₁
   unfolding rest_of
-  production-full q rounds made e a = record {
-    answer = a ∙ rw (made.over e);
-    sets = λ x g. let z : ◌≡◌ {A = Answer Rest} (refused 11) (got x) = rw (made.over e) at g in not-got z;
+  production-full q rounds {e} made = record {
+    answer = refused_record e ∙ rw (made.ends.1, made.ends.0);
+    sets = λ x g. let z : ◌≡◌ {A = Answer Rest} (refused 11) (got x) = rw made.ends.0 at g in not-got z;
     result-beyond = made.result-beyond;
     scratch-beyond = made.scratch-beyond;
   }
@@ -114,8 +119,8 @@ module _ {u : Setup} {k : ℕ} {words result scratch : List ℕ} (begun : Begun 
     unfolding rest_of follow-part
     rest-is = rw done.made
 
-  pub follow-ready : {full : Bool} {result₁ scratch₁ : List ℕ} → Produced u k (prods u k words result) full result scratch result₁ scratch₁ → full ≡ false → Ready u k result₁ scratch₁
-  follow-ready made e = ready-after (made.done e)
+  pub follow-ready : {result₁ scratch₁ : List ℕ} → Produced u k (prods u k words result) (Ok tt) result scratch result₁ scratch₁ → Ready u k result₁ scratch₁
+  follow-ready made = ready-after made.ends
 
   pub follow-words : Grammatical u words
   follow-words = record { rules = begun.rules; places = begun.sets }
@@ -128,53 +133,42 @@ module _ {u : Setup} {k : ℕ} {words result scratch : List ℕ} (begun : Begun 
     answered f d = rest-is done ∙ rw (← old-after done, d.made, d.placed)
 
   module _ (q : ℕ) (rounds : List ℕ) {result₁ scratch₁ : List ℕ} (past : past_result u result₁ ≡ past_result u result) (work-past : past_scratch u scratch₁ ≡ past_scratch u scratch)
-      (done : Production u k (prods u k words result) result scratch result₁ scratch₁) {result₂ scratch₂ : List ℕ} {r : Lookahead} where
-    settled : (f : ℕ) → PositionsDone u k words f result₁ result₂ scratch₂ → past_scratch u scratch₂ ≡ past_scratch u scratch → r ≡ finished u q rounds f
-        → RestRan u k q rounds words result scratch r result₂ scratch₂
-    settled f d beyond a =
+      (done : Production u k (prods u k words result) result scratch result₁ scratch₁) {result₂ scratch₂ : List ℕ} where
+    settled : (f : ℕ) → PositionsDone u k words f result₁ result₂ scratch₂ → past_scratch u scratch₂ ≡ past_scratch u scratch
+        → RestRan u k q rounds words result scratch (finished u q rounds f) result₂ scratch₂
+    settled f d beyond =
         let x : Rest = record { productions = done.products; follows = d.sets; follow_rounds = f; positions = d.places } in
         let is : rest_for u k words result ≡ got x = answered done f d in
         let held : result₂ ≡ store k u.b u.w (old_sets u result ++ (done.products ++ (d.sets ++ d.places))) (past_result u result) =
         d.row.turned.held.words
         ∙ ap₂ (store k u.b u.w) (ap (λ (A : State). A ++ (d.sets ++ d.places)) (firsts_after done) ∙ append_assoc (old_sets u result) done.products (d.sets ++ d.places)) past in
         record {
-          answer = a ∙ rw is;
+          answer = rw is;
           sets = λ y e. let same : x ≡ y = got-inj (sym is ∙ e) in subst (λ (z : Rest). result₂ ≡ store k u.b u.w (old_sets u result ++ (z.productions ++ (z.follows ++ z.positions))) (past_result u result)) same held;
           result-beyond = turned-beyond d.row.turned ∙ past;
           scratch-beyond = beyond;
         }
 
-    gave-up : (e : ℕ) → (follow (room u) k (grammar_in u words) (old_sets u result₁) >>= λ end. position_sets (room u) k (old_sets u result₁) (occurrences_of (grammar_in u words).productions) end.sets) ≡ refused 11
-        → e ≡ 11 → past_result u result₂ ≡ past_result u result → past_scratch u scratch₂ ≡ past_scratch u scratch → r ≡ answer_of (refused e) → RestRan u k q rounds words result scratch r result₂ scratch₂
+    gave-up : (e : Refusal) → (follow (room u) k (grammar_in u words) (old_sets u result₁) >>= λ end. position_sets (room u) k (old_sets u result₁) (occurrences_of (grammar_in u words).productions) end.sets) ≡ refused 11
+        → e ≡ SetTooLarge → past_result u result₂ ≡ past_result u result → past_scratch u scratch₂ ≡ past_scratch u scratch → RestRan u k q rounds words result scratch (record_of (Err e)) result₂ scratch₂
     unfolding follow-part
-    gave-up e m z beyond work-beyond a =
+    gave-up e m z beyond work-beyond =
         let is : rest_for u k words result ≡ refused 11 =
         rest-is done ∙ rw (← old-after done) (refused-more (follow (room u) k (grammar_in u words) (old_sets u result₁)) (λ end. position_sets (room u) k (old_sets u result₁) (occurrences_of (grammar_in u words).productions) end.sets)
         (λ end Z. got (record { productions = done.products; follows = end.sets; follow_rounds = end.rounds; positions = Z })) m) in
         record {
-          answer = a ∙ rw (z, is);
+          answer = refused_record e ∙ rw (z, is);
           sets = λ y e. not-got (sym is ∙ e);
           result-beyond = beyond;
           scratch-beyond = work-beyond;
         }
 
-    pub followed : (ending : Ending) → Positioned u k words ending result₁ scratch₁ result₂ scratch₂ → r ≡ told_of ending u q rounds → RestRan u k q rounds words result scratch r result₂ scratch₂
-    followed (Settled f) p a = settled f p.ends (p.scratch-beyond ∙ work-past) a
-    followed (Refused e) p a = gave-up e p.ends.0 p.ends.1 (p.result-beyond ∙ past) (p.scratch-beyond ∙ work-past) a
+  module _ (q : ℕ) (rounds : List ℕ) {result₁ scratch₁ result₂ scratch₂ : List ℕ} (made : Produced u k (prods u k words result) (Ok tt) result scratch result₁ scratch₁) where
+    pub rest-done : {f : ℕ} → Positioned u k words (Ok f) result₁ scratch₁ result₂ scratch₂ → RestRan u k q rounds words result scratch (finished u q rounds f) result₂ scratch₂
+    rest-done {f} p = settled q rounds made.result-beyond made.scratch-beyond made.ends f p.ends (p.scratch-beyond ∙ made.scratch-beyond)
 
-  pub rest-done : (q : ℕ) (rounds : List ℕ) {full : Bool} {result₁ scratch₁ result₂ scratch₂ : List ℕ} {r : Lookahead} (ending : Ending)
-      → Produced u k (prods u k words result) full result scratch result₁ scratch₁ → full ≡ false → Positioned u k words ending result₁ scratch₁ result₂ scratch₂
-      → r ≡ told_of ending u q rounds → RestRan u k q rounds words result scratch r result₂ scratch₂
-  rest-done q rounds ending made e p a = followed q rounds made.result-beyond made.scratch-beyond (made.done e) ending p a
-
--- ---- the answer after FOLLOW
-
-module _ (ending : Ending) (u : Setup) (q : ℕ) (rounds : List ℕ) where
-  pub told-settled : (f : ℕ) → ending ≡ Settled f → finished u q rounds f ≡ told_of ending u q rounds
-  told-settled f e = rw e
-
-  pub told-refused : (e : ℕ) {x : Lookahead} → ending ≡ Refused e → x ≡ answer_of (refused e) → x ≡ told_of ending u q rounds
-  told-refused e z a = a ∙ rw z
+    pub rest-refused : {e : Refusal} → Positioned u k words (Err e) result₁ scratch₁ result₂ scratch₂ → RestRan u k q rounds words result scratch (record_of (Err e)) result₂ scratch₂
+    rest-refused {e} p = gave-up q rounds made.result-beyond made.scratch-beyond made.ends e p.ends.0 p.ends.1 (p.result-beyond ∙ made.result-beyond) (p.scratch-beyond ∙ made.scratch-beyond)
 
 -- ---- the numbers by which it is worked out
 

@@ -12,15 +12,14 @@ use Rattle.follow_theory.specs.Follow.{Follow, AtPosition, Occurrence, occurrenc
 use Rattle.messages.specs.Messages.{InMessages, AllReachable}
 use Rattle.analysis.specs.Analysis.{Analysis}
 use Rattle.analysis.specs.Promises.{EnoughRoom, IsSetOf, LevelRounds, FollowRounds, AnyOrder, Between, IsTableOf, EnoughWords, Verdict}
-use Rattle.engine.specs.declared.Lookahead.{Lookahead}
 use Rattle.engine.specs.Ask.{set_part}
-use Rattle.engine.specs.Call.{answer_of}
+use Rattle.engine.specs.Call.{Record, answer_of}
 
 -- ---- demand 1
 
 -- Every input is answered or refused by the table of refusals: one case holds of it and no other, and the record tells that case.
 -- Refusals 3 to 7 are given exactly when the bytes are refused so, k and c being in range.
-pub record Demand1 (k c : ℕ) (table result scratch : List ℕ) (r : Lookahead) : Type 0 where
+pub record Demand1 (k c : ℕ) (table result scratch : List ℕ) (r : Record) : Type 0 where
   pub case : Answer Analysis
   pub verdict : Verdict k c table (length result) (length scratch) case
   pub one : (m : Answer Analysis) → Verdict k c table (length result) (length scratch) m → m ≡ case
@@ -31,7 +30,7 @@ pub record Demand1 (k c : ℕ) (table result scratch : List ℕ) (r : Lookahead)
 
 -- Asking the words that a call left for a set gives the words of this one, which the set operations read as it (so they never refuse it 13);
 -- and it holds what P says, and nothing else.
-pub record Gives (k c : ℕ) (r : Lookahead) (words : List ℕ) (kind number : ℕ) (set : List Str) (P : Word → Type 0) : Type 0 where
+pub record Gives (k c : ℕ) (r : Record) (words : List ℕ) (kind number : ℕ) (set : List Str) (P : Word → Type 0) : Type 0 where
   pub part : set_part kind number r.n r.p r.q c words ≡ set_words k (2 * c + 1) r.width set
   pub read : set_in k (set_part kind number r.n r.p r.q c words) ≡ good (width_for r.width set) set
   pub holds : IsSetOf P set
@@ -47,7 +46,7 @@ position_of g i = get_or (occurrences_of g.productions) i (record { target = 0; 
 -- FIRST, in both its forms, and the equations' FOLLOW, which is what messages show where every nonterminal can be reached; each count of rounds is that
 -- of the first round that repeats the sets before it, a level's at most n + 1 and FOLLOW's at most the members of its sets; and FOLLOW is the same in
 -- any order of the equations.
-pub record Demand23 (k c : ℕ) (table : List ℕ) (r : Lookahead) (words : List ℕ) : Type 0 where
+pub record Demand23 (k c : ℕ) (table : List ℕ) (r : Record) (words : List ℕ) : Type 0 where
   pub g : Grammar
   pub table_of : IsTableOf g table
   pub accepted : Accepted g
@@ -77,7 +76,7 @@ pub record Demand23 (k c : ℕ) (table : List ℕ) (r : Lookahead) (words : List
 -- ---- all of it
 
 -- Every input has its answer; an answer that is no refusal is right; and a table that may be served, with words and room enough, is served.
-pub record Demanded (k c : ℕ) (table result scratch : List ℕ) (r : Lookahead) (words : List ℕ) : Type 0 where
+pub record Demanded (k c : ℕ) (table result scratch : List ℕ) (r : Record) (words : List ℕ) : Type 0 where
   pub answered : Demand1 k c table result scratch r
   pub right : r.refusal ≡ 0 → Demand23 k c table r words
   pub served : (g : Grammar) → IsTableOf g table → Accepted g → Between 1 10 k → Between 1 1024 c

@@ -11,11 +11,8 @@ use Rattle.follow_theory.specs.Follow.{occurrences_of, follow, position_sets}
 use Rattle.first.specs.declared.Setup.{Setup}
 use Rattle.first.specs.Steps.{old_sets, past_result, past_scratch, room, Ready}
 use Rattle.first.specs.Rounds.{grammar_in, Rules}
-use Rattle.first.specs.declared.Ending.{Ending}
-use Rattle.first.specs.declared.Ending.TheVariants.{Settled, Refused}
-use Rattle.engine.specs.declared.Lookahead.{Lookahead}
-use Rattle.engine.specs.declared.Shape.{Shape}
-use Rattle.engine.specs.Call.{answer_of}
+use Rattle.cfg.specs.declared.table.Shape.{Shape}
+use Rattle.engine.specs.Call.{Record, answer_of}
 
 abbrev pub setup_of : ℕ → Shape → ℕ → Setup
 setup_of c s q = record {
@@ -29,13 +26,9 @@ setup_of c s q = record {
   w = width_of (s.t + 5);
 }
 
--- the answer with FOLLOW's rounds, and with its refusal
-abbrev pub finished : Setup → ℕ → List ℕ → ℕ → Lookahead
+-- the answer with FOLLOW's rounds
+abbrev pub finished : Setup → ℕ → List ℕ → ℕ → Record
 finished u q rounds f = record { refusal = 0; n = u.n; p = u.p; q = q; width = u.w; rounds = rounds; follow = f }
-
-abbrev pub told_of : Ending → Setup → ℕ → List ℕ → Lookahead
-told_of (Settled f) u q rounds = finished u q rounds f
-told_of (Refused r) u q rounds = answer_of (refused r)
 
 -- buffers in which FIRST of the nonterminals stands
 pub record Begun (u : Setup) (k : ℕ) (words result scratch : List ℕ) : Type 0 where
@@ -57,14 +50,14 @@ rest_of c k g X = do
   positions ← position_sets c k X (occurrences_of g.productions) follows.sets
   got (record { productions = productions; follows = follows.sets; follow_rounds = follows.rounds; positions = positions })
 
-abbrev pub rest_answer : Setup → ℕ → List ℕ → Answer Rest → Lookahead
+abbrev pub rest_answer : Setup → ℕ → List ℕ → Answer Rest → Record
 rest_answer u q rounds (refused r) = answer_of (refused r)
 rest_answer u q rounds (got x) = finished u q rounds x.follow_rounds
 
 abbrev pub rest_for : Setup → ℕ → (words result : List ℕ) → Answer Rest
 rest_for u k words result = rest_of (room u) k (grammar_in u words) (old_sets u result)
 
-pub record RestRan (u : Setup) (k q : ℕ) (rounds words result scratch : List ℕ) (r : Lookahead) (result' scratch' : List ℕ) : Type 0 where
+pub record RestRan (u : Setup) (k q : ℕ) (rounds words result scratch : List ℕ) (r : Record) (result' scratch' : List ℕ) : Type 0 where
   pub answer : r ≡ rest_answer u q rounds (rest_for u k words result)
   pub sets : (x : Rest) → rest_for u k words result ≡ got x
       → result' ≡ store k u.b u.w (old_sets u result ++ (x.productions ++ (x.follows ++ x.positions))) (past_result u result)

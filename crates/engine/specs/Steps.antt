@@ -3,20 +3,18 @@
 use Rattle.std.specs.Prelude.{ℕ, ◌+◌, ◌*◌, ◌≤◌, ◌&&◌, List, ◌≡◌, leb, length, drop}
 use Rattle.cfg.specs.Grammar.{Grammar, Accepted}
 use Rattle.cfg.specs.Words.{Sound}
-use Rattle.cfg.specs.Table.{grammar_of}
-use Rattle.cfg.specs.declared.table.TableAnswer.{TableAnswer}
+use Rattle.cfg.specs.Table.{header_of, grammar_of}
 use Rattle.cfg.proofs.Sizes.{Sizes}
 use Rattle.cfg.proofs.Meaning.{TableRead}
 use Rattle.k_tuples.specs.Work.{Answer, got, ◌>>◌, demand}
 use Rattle.k_tuples.specs.Blocks.{store}
 use Rattle.analysis.specs.Analysis.{Analysis, work, result_needs, scratch_needs}
-use Rattle.engine.specs.declared.Shape.{Shape}
-use Rattle.engine.specs.declared.Lookahead.{Lookahead}
-use Rattle.engine.specs.Call.{answer_of, sets_of, wiped, Left}
+use Rattle.cfg.specs.declared.table.Shape.{Shape}
+use Rattle.engine.specs.Call.{Record, answer_of, sets_of, wiped, Left}
 
 -- the grammar of a shape, whose productions stand in some words
 abbrev pub grammar_in : Shape → List ℕ → Grammar
-grammar_in s words = grammar_of (record { n = s.n; t = s.t; start = s.start; p = s.p }) words
+grammar_in s words = grammar_of (header_of s) words
 
 -- k and c in range, and a grammar that was accepted
 pub record Ready (k c : ℕ) (s : Shape) (words : List ℕ) : Type 0 where
@@ -41,25 +39,20 @@ pub record Clean (c : ℕ) (g : Grammar) (result scratch : List ℕ) : Type 0 wh
   pub result-clean : result ≡ wiped (result_needs c g) result
   pub scratch-clean : scratch ≡ wiped (scratch_needs c g) scratch
 
--- the number of a table's refusal, and 0 where it is read
-abbrev pub table_refusal : TableAnswer → ℕ
-table_refusal (TableAnswer.Table n t start p used) = 0
-table_refusal (TableAnswer.Refused r) = r
-
 -- the analysis once the grammar is read
 unfoldable pub on_grammar : (k c : ℕ) → Grammar → (result scratch : ℕ) → Answer Analysis
 on_grammar k c g result scratch = demand 10 (leb (result_needs c g) result && leb (scratch_needs c g) scratch) >> work k c g
 
 -- the work was done in buffers whose needed words were zero: the answer is its record, the sets stand in the result, and nothing past the needed words has changed
-pub record Ran (k c : ℕ) (g : Grammar) (result scratch : List ℕ) (r : Lookahead) (result' scratch' : List ℕ) : Type 0 where
+pub record Ran (k c : ℕ) (g : Grammar) (result scratch : List ℕ) (r : Record) (result' scratch' : List ℕ) : Type 0 where
   pub answer : r ≡ answer_of (work k c g)
   pub sets : (a : Analysis) → work k c g ≡ got a → result' ≡ store k (2 * c + 1) a.width (sets_of a) (drop (result_needs c g) result)
   pub result-beyond : drop (result_needs c g) result' ≡ drop (result_needs c g) result
   pub scratch-beyond : drop (scratch_needs c g) scratch' ≡ drop (scratch_needs c g) scratch
 
 -- after the work on a grammar, and after the test for its words too
-abbrev pub Worked : (k c : ℕ) → Grammar → (result scratch : List ℕ) → Lookahead → (result' scratch' : List ℕ) → Type 0
+abbrev pub Worked : (k c : ℕ) → Grammar → (result scratch : List ℕ) → Record → (result' scratch' : List ℕ) → Type 0
 Worked k c g result scratch r result' scratch' = Left (work k c g) k c (result_needs c g) (scratch_needs c g) result scratch r result' scratch'
 
-abbrev pub Asked : (k c : ℕ) → Grammar → (result scratch : List ℕ) → Lookahead → (result' scratch' : List ℕ) → Type 0
+abbrev pub Asked : (k c : ℕ) → Grammar → (result scratch : List ℕ) → Record → (result' scratch' : List ℕ) → Type 0
 Asked k c g result scratch r result' scratch' = Left (on_grammar k c g (length result) (length scratch)) k c (result_needs c g) (scratch_needs c g) result scratch r result' scratch'

@@ -1,64 +1,78 @@
-// Asking for one set of a result by kind and number. Kinds: 0 FIRST of nonterminals, 1 FIRST of productions, 2 FOLLOW of nonterminals, 3 positions.
+// Asking for one set of a result by kind and number.
 ghost use Rattle.std.specs.Prelude.{◌≡◌, ◌+◌, ◌*◌, ◌≤◌, length};
-ghost use Rattle.engine.specs.Ask.{kind_start, kind_count, in_limits, there_is, set_part};
+ghost use Rattle.engine.specs.Ask.{kind_number, Decodes, kind_start, kind_count, in_limits, place_of, set_part};
 
+// What a set is of, in the order in which a result has them; as numbers from 0 on.
+#[derive(Clone, Copy, Debug, PartialEq, Eq)]
+pub enum Kind {
+    // FIRST of a nonterminal
+    First,
+    // FIRST of a production
+    Production,
+    // FOLLOW of a nonterminal
+    Follow,
+    // a position
+    Position,
+}
+
+// A number that names no kind.
+#[derive(Clone, Copy, Debug, PartialEq, Eq)]
+pub struct UnknownKind(pub usize);
+
+impl TryFrom<usize> for Kind {
+    type Error = UnknownKind;
+
+    ghost try_from_gives = { Decodes };
+
+    fn try_from(number: usize) -> Result<Kind, UnknownKind> {
+        match number {
+            0 => Ok(Kind::First),
+            1 => Ok(Kind::Production),
+            2 => Ok(Kind::Follow),
+            3 => Ok(Kind::Position),
+            _ => Err(UnknownKind(number)),
+        }
+    }
+}
+
+impl Kind {
+    // How many sets there are of it.
+    #[tactic(auto, unfolding(crate::specs::Ask::kind_count))]
+    fn count(self, n: usize, p: usize, q: usize) -> usize
+        ensures { result ≡ kind_count (kind_number self) n p q }
+    {
+        match self {
+            Kind::First | Kind::Follow => n,
+            Kind::Production => p,
+            Kind::Position => q,
+        }
+    }
+
+    // Which set of a result is the first of it.
+    #[tactic(auto, unfolding(crate::specs::Ask::kind_start))]
+    fn start(self, n: usize, p: usize) -> usize
+        requires { (n ≤ 128) × (p ≤ 512) }
+        ensures { result ≡ kind_start (kind_number self) n p }
+    {
+        match self {
+            Kind::First => 0,
+            Kind::Production => n,
+            Kind::Follow => n + p,
+            Kind::Position => 2 * n + p,
+        }
+    }
+}
+
+// Whether a result may have these sizes.
+#[tactic(auto, unfolding(crate::specs::Ask::in_limits))]
 fn in_limits(n: usize, p: usize, q: usize, c: usize) -> bool
     ensures { result ≡ in_limits n p q c }
 {
-    if n < 1 {
-        return false;
-    }
-    if 128 < n {
-        return false;
-    }
-    if 512 < p {
-        return false;
-    }
-    if 4096 < q {
-        return false;
-    }
-    if c < 1 {
-        return false;
-    }
-    c <= 1024
+    1 <= n && n <= 128 && p <= 512 && q <= 4096 && 1 <= c && c <= 1024
 }
 
-fn kind_count(kind: usize, n: usize, p: usize, q: usize) -> usize
-    ensures { result ≡ kind_count kind n p q }
-{
-    if kind == 0 {
-        return n;
-    }
-    if kind == 1 {
-        return p;
-    }
-    if kind == 2 {
-        return n;
-    }
-    if kind == 3 {
-        return q;
-    }
-    0
-}
-
-pub fn kind_start(kind: usize, n: usize, p: usize) -> usize
-    requires { (n ≤ 128) × (p ≤ 512) }
-    ensures { result ≡ kind_start kind n p }
-{
-    if kind == 0 {
-        return 0;
-    }
-    if kind == 1 {
-        return n;
-    }
-    if kind == 2 {
-        return n + p;
-    }
-    2 * n + p
-}
-
-// Whether there is such a set, and the words hold a whole result.
-pub fn there_is(
+// Where in a result of so many words a set begins; none where there is no such set, or the words are fewer than the whole result takes.
+pub fn place(
     len: usize,
     kind: usize,
     number: usize,
@@ -66,18 +80,20 @@ pub fn there_is(
     p: usize,
     q: usize,
     c: usize,
-) -> bool
-    ensures { result ≡ there_is len kind number n p q c }
+) -> Option<usize>
+    ensures { result ≡ place_of len kind number n p q c }
 {
-    if in_limits(n, p, q, c) {} else {
-        return false;
+    if !in_limits(n, p, q, c) {
+        return None;
     }
-    if kind_count(kind, n, p, q) <= number {
-        return false;
-    }
-    let sets = 2 * n + p + q;
+    let Ok(kind) = Kind::try_from(kind) else {
+        return None;
+    };
     let size = 2 * c + 1;
-    sets * size <= len
+    if kind.count(n, p, q) <= number || len < (2 * n + p + q) * size {
+        return None;
+    }
+    Some((kind.start(n, p) + number) * size)
 }
 
 // The part of the words that holds a set, or an empty part.
@@ -92,11 +108,8 @@ pub fn set_of(
 ) -> &[u64]
     ensures { result.now ≡ set_part kind number n p q c words.now }
 {
-    if there_is(words.len(), kind, number, n, p, q, c) {} else {
-        return &words[0..0];
+    match place(words.len(), kind, number, n, p, q, c) {
+        Some(at) => &words[at..at + 2 * c + 1],
+        None => &words[..0],
     }
-    let size = 2 * c + 1;
-    let at = (kind_start(kind, n, p) + number) * size;
-    let end = at + size;
-    &words[at..end]
 }

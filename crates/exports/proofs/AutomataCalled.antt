@@ -4,30 +4,44 @@ use mathlib.Core.Path.{◌≡◌, refl, sym, ap, ◌∙◌}
 use mathlib.Core.List.{List, [], ◌∷◌, ◌++◌}
 use borrow.Author.Tests.{lt-ltb, le-ltb}
 use lib.ListN.{length, take, drop}
-use Rattle.automaton.specs.declared.answer.Automata.{Automata}
-use Rattle.automaton.specs.Call.{record_of, Promised}
-use Rattle.exports.specs.Told.{Wrote}
+use Rattle.std.specs.Prelude.{Result, Ok, Err}
+use Rattle.std.specs.Result.{result_unwrap_or}
+use Rattle.refusals.specs.declared.Refusal.{Refusal}
+use Rattle.automaton.specs.Call.{Automata, recorded, record_of, Promised}
+use Rattle.exports.specs.Told.{Wrote, number_told}
 use Rattle.exports.specs.Automata.{made_of, AutomataCalled}
 use Rattle.exports.proofs.Telling.{told_same}
 use Rattle.exports.proofs.Needing.{nothing}
 
-module _ {limit c : ℕ} {table answer : List ℕ} {a : Automata} where
-  pub automata-short : (out result scratch : List ℕ) {o r s : List ℕ} → length answer < 1 → Promised limit c table (take 0 out) (take 0 result) (take 0 scratch) a o r s
+-- the record's two numbers are those of the result
+number-is : (made : Result ℕ Refusal) → number_told made ≡ (recorded made).refusal
+number-is (Ok n) = refl
+number-is (Err e) = refl
+
+bytes-are : (made : Result ℕ Refusal) → result_unwrap_or made 0 ≡ (recorded made).bytes
+bytes-are (Ok n) = refl
+bytes-are (Err e) = refl
+
+refusal-is : (made : Result ℕ Refusal) {number : ℕ} {m : Automata} → number ≡ number_told made → recorded made ≡ m → number ≡ m.refusal
+refusal-is made told e = told ∙ number-is made ∙ ap (λ (x : Automata). x.refusal) e
+
+module _ {limit c : ℕ} {table answer : List ℕ} (made : Result ℕ Refusal) {number : ℕ} (told : number ≡ number_told made) where
+  pub automata-short : (out result scratch : List ℕ) {o r s : List ℕ} → length answer < 1 → Promised limit c table (take 0 out) (take 0 result) (take 0 scratch) (recorded made) o r s
       → length o ≡ length (take 0 out) → length r ≡ length (take 0 result) → length s ≡ length (take 0 scratch)
-      → AutomataCalled limit c table out result scratch answer a.refusal (o ++ drop 0 out) (r ++ drop 0 result) (s ++ drop 0 scratch) answer
+      → AutomataCalled limit c table out result scratch answer number (o ++ drop 0 out) (r ++ drop 0 result) (s ++ drop 0 scratch) answer
   automata-short out result scratch {o} {r} {s} h p e f g = record {
-    number = rw (lt-ltb (length answer) 1 h) (ap (λ (x : Automata). x.refusal) p.answer);
+    number = rw (lt-ltb (length answer) 1 h) (refusal-is made told p.answer);
     answer-words = rw (lt-ltb (length answer) 1 h);
     out-bytes = rw (lt-ltb (length answer) 1 h) (nothing o e out);
     result_words = rw (lt-ltb (length answer) 1 h) (nothing r f result);
     scratch-words = rw (lt-ltb (length answer) 1 h) (nothing s g scratch);
   }
 
-  pub automata-told : {out result scratch out' result' scratch' words answer' : List ℕ} {r : ℕ} → 1 ≤ length answer → Promised limit c table out result scratch a out' result' scratch'
-      → words ≡ a.bytes ∷ [] → Wrote (length words) a.refusal words answer r answer'
+  pub automata-told : {out result scratch out' result' scratch' words answer' : List ℕ} {r : ℕ} → 1 ≤ length answer → Promised limit c table out result scratch (recorded made) out' result' scratch'
+      → words ≡ result_unwrap_or made 0 ∷ [] → Wrote (length words) number words answer r answer'
       → AutomataCalled limit c table out result scratch answer r out' result' scratch' answer'
   automata-told h p e w =
-      let v = told_same (ap length e) (ap (λ (x : Automata). x.refusal) p.answer) (e ∙ ap (λ (x : Automata). x.bytes ∷ []) p.answer) w in
+      let v = told_same (ap length e) (refusal-is made told p.answer) (e ∙ ap (λ (b : ℕ). b ∷ []) (bytes-are made) ∙ ap (λ (x : Automata). x.bytes ∷ []) p.answer) w in
       record {
         number = v.number ∙ rw (le-ltb (length answer) 1 h);
         answer-words = v.words;

@@ -6,6 +6,8 @@ use mathlib.Core.Path.{◌≡◌, refl, sym, ap, ◌∙◌, subst}
 use mathlib.Core.List.{List, [], ◌++◌}
 use borrow.Author.Tests.{lt-ltb, le-ltb}
 use lib.ListN.{length}
+use Rattle.std.specs.Prelude.{Result, Ok, Err}
+use Rattle.refusals.specs.declared.Refusal.{Refusal}
 use Rattle.cfg.specs.Grammar.{Grammar}
 use Rattle.cfg.specs.Write.{Bytes}
 use Rattle.cfg.proofs.Exactly.{refusal-rows}
@@ -14,11 +16,11 @@ use Rattle.analysis.specs.Analysis.{Analysis, analyse}
 use Rattle.analysis.specs.Promises.{EnoughWords, Verdict}
 use Rattle.analysis.proofs.Verdict.{answers-all, one_answer}
 use Rattle.engine.specs.declared.Lookahead.{Lookahead}
-use Rattle.engine.specs.Call.{answer_of, result_needed, scratch_needed, result_after, scratch_after, Promised}
+use Rattle.engine.specs.Call.{Record, record_of, answer_of, result_needed, scratch_needed, result_after, scratch_after, Promised}
 use Rattle.engine.specs.Demands.{Demanded}
 use Rattle.engine.proofs.Demands.{demanded}
 use Rattle.exports.specs.Call.{record_words, answer_for, Called}
-use Rattle.exports.specs.Told.{too_few, Wrote}
+use Rattle.exports.specs.Told.{too_few, Wrote, number_told}
 use Rattle.exports.proofs.Telling.{few-before, few-at-most, told-few, told_same}
 
 -- the scratch always needs some
@@ -53,15 +55,21 @@ module _ (k c needed : ℕ) (r : ℕ) where
   unfolding scratch_after
   none-worked = rw (few-at-most r)
 
+-- the number that is told is the record's
+told_number : (a : Result Lookahead Refusal) → number_told a ≡ (record_of a).refusal
+told_number (Ok l) = refl
+told_number (Err e) = refl
+
 module _ {k c : ℕ} {table result scratch answer : List ℕ} where
-  pub called-few : {a : Lookahead} {R S : List ℕ} → length answer < 16 → Promised k c table [] [] a R S → Bytes table → Called k c table result scratch answer a.refusal (R ++ result) (S ++ scratch) answer
+  pub called-few : (a : Result Lookahead Refusal) {R S : List ℕ} {n : ℕ} → length answer < 16 → Promised k c table [] [] (record_of a) R S → Bytes table → n ≡ number_told a
+      → Called k c table result scratch answer n (R ++ result) (S ++ scratch) answer
   unfolding answer_of
-  called-few {a} {R} {S} h p bytes =
+  called-few a {R} {S} h p bytes told =
       let r = (answer_for k c table result scratch).refusal in
       let none = analyse-none k c table (length result) (length scratch) bytes in
       record {
         bytes = bytes;
-        wrote = told-few h (ap (λ (x : Lookahead). x.refusal) p.answer ∙ ap (λ (m : Answer Analysis). (answer_of m).refusal) none);
+        wrote = told-few h (told ∙ told_number a ∙ ap (λ (x : Record). x.refusal) p.answer ∙ ap (λ (m : Answer Analysis). (answer_of m).refusal) none);
         result_words =
             ap (λ (l : List ℕ). l ++ result) (p.result_words ∙ ap (result_after k c (result_needed c table) []) none ∙ none_left k c (result_needed c table) r)
             ∙ rw (lt-ltb (length answer) 16 h);
@@ -70,11 +78,11 @@ module _ {k c : ℕ} {table result scratch answer : List ℕ} where
             ∙ rw (lt-ltb (length answer) 16 h);
       }
 
-  pub called-whole : {a : Lookahead} {words result' scratch' answer' : List ℕ} {r : ℕ} → 16 ≤ length answer → Promised k c table result scratch a result' scratch' → Bytes table
-      → words ≡ record_words a → Wrote (length words) a.refusal words answer r answer' → Called k c table result scratch answer r result' scratch' answer'
-  called-whole {a} h p bytes e t = record {
+  pub called-whole : (a : Result Lookahead Refusal) {words result' scratch' answer' : List ℕ} {n r : ℕ} → 16 ≤ length answer → Promised k c table result scratch (record_of a) result' scratch' → Bytes table
+      → n ≡ number_told a → words ≡ record_words (record_of a) → Wrote (length words) n words answer r answer' → Called k c table result scratch answer r result' scratch' answer'
+  called-whole a h p bytes told e t = record {
     bytes = bytes;
-    wrote = told_same (ap length e) (ap (λ (x : Lookahead). x.refusal) p.answer) (e ∙ ap record_words p.answer) t;
+    wrote = told_same (ap length e) (told ∙ told_number a ∙ ap (λ (x : Record). x.refusal) p.answer) (e ∙ ap record_words p.answer) t;
     result_words = p.result_words ∙ rw (le-ltb (length answer) 16 h);
     scratch-words = p.scratch-words ∙ rw (le-ltb (length answer) 16 h);
   }

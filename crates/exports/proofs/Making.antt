@@ -1,19 +1,21 @@
 -- A union that tells whether it added: with no word for that, its refusal is that of an output of no words, which nothing is written to. Assumes nothing.
-use Prim.Native.Nat.{ℕ, ◌≤◌, ◌<◌}
+use Prim.Native.Nat.{ℕ}
 use mathlib.Core.Path.{◌≡◌, refl, ap, ◌∙◌}
 use mathlib.Core.Bool.{Bool, true, false, not, ◌||◌}
-use mathlib.Core.List.{List, [], ◌∷◌, ◌++◌}
+use mathlib.Core.List.{List, [], ◌++◌}
 use borrow.Author.Tests.{lt-ltb, le-ltb}
 use lib.Dec.{ltb, eqb}
 use lib.ListN.{length}
 use Rattle.k_tuple.specs.Strings.{Str}
-use Rattle.k_tuple.specs.Paper.{Paper, flag, number_of, values_of, Tests, answers, ◌if◌else◌, outcome}
+use Rattle.k_tuple.specs.Paper.{Paper, flag, number_of, Tests, answers, ◌if◌else◌, outcome}
 use Rattle.k_tuples.specs.Held.{set_in}
-use Rattle.k_tuples.specs.Words.{room_of}
-use Rattle.k_tuples.specs.Answers.{is_bad, width_in, members_in, suits, common_width, no_words, outside, two_sets, new_set, written, union_set, union_answer, union_words}
-use Rattle.exports.specs.declared.Said.{Said}
-use Rattle.exports.specs.Told.{too_few, Wrote, Made}
-use Rattle.exports.proofs.Telling.{told-few, told_same}
+use Rattle.k_tuples.specs.Words.{Growth, room_of}
+use Rattle.k_tuples.specs.declared.set.Grown.TheVariants.{Added, Same}
+use Rattle.std.specs.Prelude.{Ok, Err}
+use native.Mathlib.Omega.{arith}
+use Rattle.k_tuples.specs.Answers.{is_bad, width_in, members_in, suits, common_width, no_words, outside, two_sets, new_set, written, union_set, union_on_paper, union_answer, union_words}
+use Rattle.exports.specs.Told.{too_few, Told, number_told, Made}
+use Rattle.exports.proofs.Telling.{told-few}
 
 -- a test that ends so holds
 or-true : (x : Bool) → (x || true) ≡ true
@@ -29,6 +31,11 @@ few-first false none false true other full t v e = rw e
 few-first false none false false true full t v e = rw e
 few-first false none false false false true t v e = rw e
 few-first false none false false false false t v e = rw e
+
+growth-number : (r : Growth) → number_told r ≡ number_of (union_on_paper r)
+growth-number (Ok Added) = refl
+growth-number (Ok Same) = refl
+growth-number (Err e) = refl
 
 module _ (k : ℕ) (a b : List ℕ) where
   -- whether a set has no words; and what is tested behind that
@@ -57,17 +64,13 @@ module _ (k : ℕ) (a b : List ℕ) where
       by false empty t w set e = rw e
 
   module _ {out told : List ℕ} where
-    pub made-few : {p : Paper} {m : ℕ} {part : List ℕ} → length told < 1 → p ≡ union_answer k 0 a b → part ≡ union_words k a b [] → m ≡ number_of p
+    pub made-few : (r : Growth) {m : ℕ} {part : List ℕ} → length told ≡ 0 → union_on_paper r ≡ union_answer k 0 a b → part ≡ union_words k a b [] → m ≡ number_told r
         → Made 1 (union_answer k (length out) a b) (union_words k a b out) out told m (part ++ out) told
-    made-few h e f n = record {
-      wrote = told-few h (n ∙ ap number_of e ∙ union-few (length out));
-      words = ap (λ (l : List ℕ). l ++ out) (f ∙ union-none) ∙ rw (lt-ltb (length told) 1 h);
+    made-few r h e f n = record {
+      wrote = told-few (omega arith) (n ∙ growth-number r ∙ ap number_of e ∙ union-few (length out));
+      words = ap (λ (l : List ℕ). l ++ out) (f ∙ union-none) ∙ rw (lt-ltb (length told) 1 (omega arith));
     }
 
-    pub made-whole : {p : Paper} {s : Said} {out' told' : List ℕ} {r : ℕ} → 1 ≤ length told → p ≡ union_answer k (length out) a b → out' ≡ union_words k a b out
-        → s.number ≡ number_of p → (s.value ∷ []) ≡ values_of p → Wrote 1 s.number (s.value ∷ []) told r told'
-        → Made 1 (union_answer k (length out) a b) (union_words k a b out) out told r out' told'
-    made-whole {p} {s} h e f n v t = record {
-      wrote = told_same refl (n ∙ ap number_of e) (v ∙ ap values_of e) t;
-      words = f ∙ rw (le-ltb (length told) 1 h);
-    }
+    pub made-whole : {p : Paper} {out' told' : List ℕ} {r : ℕ} → (length told ≡ 0 → ⊥) → p ≡ union_answer k (length out) a b → out' ≡ union_words k a b out
+        → Told 1 p told r told' → Made 1 (union_answer k (length out) a b) (union_words k a b out) out told r out' told'
+    made-whole h e f t = record { wrote = (rw e at t).wrote; words = f ∙ rw (le-ltb (length told) 1 (omega arith)) }

@@ -6,10 +6,16 @@ use mathlib.Core.List.{List, [], ◌∷◌, ◌++◌, append_assoc, append-nil}
 use borrow.Author.Tests.{lt-ltb, le-ltb}
 use lib.ListN.{length, take, drop, length-append, length-drop}
 use lib.Seq.{drop-drop, drop_at, length-take-le, take-length, drop-length}
+use Rattle.decision.specs.Call.{Record, recorded, k_in, Promised}
+use native.Mathlib.Numerals.{add-one}
+use Rattle.std.specs.Prelude.{Result, Ok, Err, map, get_or, set, replicate}
+use Rattle.std.specs.Result.{result_unwrap_or}
+use Rattle.std.proofs.Math.Seq.{take-suc-set}
+use Rattle.std.proofs.Math.ListN.{length-set, length-replicate}
+use Rattle.std.proofs.lemmas.List.{map_more, take_all}
+use Rattle.refusals.specs.declared.Refusal.{Refusal}
 use Rattle.decision.specs.declared.Needed.{Needed}
-use Rattle.decision.specs.Call.{Promised}
-use Rattle.decision.proofs.Going.{lists-long}
-use Rattle.exports.specs.Told.{fronted}
+use Rattle.exports.specs.Told.{number_told, fronted}
 use Rattle.exports.specs.Needed.{needed_words, record_for, PutAt, PutRecord, NeededCalled}
 
 -- ---- words at a place
@@ -40,7 +46,7 @@ fronted-both n xs ys ws e h =
     ∙ sym (append_assoc xs ys (drop (length (xs ++ ys)) ws))
 
 -- the last numbers, those before them, and the first two
-pub record-put : (a : Needed) (answer : List ℕ) {one two three : List ℕ} → 258 ≤ length answer → length a.refusals ≡ 128
+pub record-put : (a : Record) (answer : List ℕ) {one two three : List ℕ} → 258 ≤ length answer → length a.refusals ≡ 128
     → PutAt 130 a.ks answer one → PutAt 2 a.refusals one two → three ≡ fronted (a.refusal ∷ a.n ∷ []) two → PutRecord a answer three
 record-put a [] h l p q r = absurd (omega arith)
 record-put a (x ∷ []) h l p q r = absurd (omega arith)
@@ -50,36 +56,60 @@ record-put a (x ∷ y ∷ ws) h l p q r = record {
       ∙ ap (λ (l : List ℕ). a.refusal ∷ a.n ∷ l) (fronted-both 128 a.refusals a.ks ws l (omega arith));
 }
 
+-- ---- the numbers of the answers
+
+-- the first i of them were told
+pub record Telling (f : Result ℕ Refusal → ℕ) (xs : List (Result ℕ Refusal)) (ns : List ℕ) (i : ℕ) : Type 0 where
+  pub long : length ns ≡ 128
+  pub told : take i ns ≡ map f (take i xs)
+
+pub telling-start : (f : Result ℕ Refusal → ℕ) (xs : List (Result ℕ Refusal)) → Telling f xs (replicate 128 0) 0
+telling-start f xs = record { long = length-replicate {A = ℕ} 128 0; told = refl }
+
+module _ {f : Result ℕ Refusal → ℕ} {xs : List (Result ℕ Refusal)} {ns : List ℕ} {i : ℕ} (w : Telling f xs ns i) (long : length xs ≡ 128) where
+  pub telling-more : i < 128 → {v : ℕ} → v ≡ f (get_or xs i (Ok 0)) → Telling f xs (set ns i v) (i + 1)
+  telling-more h {v} e = record {
+    long = length-set ns i v ∙ w.long;
+    told = ap (λ (n : ℕ). take n (set ns i v)) (add-one i) ∙ take-suc-set ns i v (omega (arith, w.long))
+        ∙ ap₂ (λ (a : List ℕ) (b : ℕ). a ++ b ∷ []) w.told e ∙ sym (map_more f xs i (Ok 0) (omega arith));
+  }
+
+  pub telling-end : 128 ≤ i → ns ≡ map f xs
+  telling-end h = sym (take_all i ns (omega (arith, w.long))) ∙ w.told ∙ ap (map f) (take_all i xs (omega arith))
+
 -- ---- the call
 
-module _ (limit c : ℕ) (table result scratch : List ℕ) {R S : List ℕ} {a : Needed} (p : Promised limit c table result scratch a R S) where
-  pub refusals-long : length a.refusals ≡ 128
-  refusals-long = (lists-long limit c table result scratch a p).0
+-- a k, or 0
+pub unwrapped : (x : Result ℕ Refusal) → result_unwrap_or x 0 ≡ k_in x
+unwrapped (Ok k) = refl
+unwrapped (Err e) = refl
 
-  pub ks-long : length a.ks ≡ 128
-  ks-long = (lists-long limit c table result scratch a p).1
+-- the number of what is returned is the record's
+pub returned-number : (a : Result Needed Refusal) → number_told a ≡ (recorded a).refusal
+returned-number (Ok a) = refl
+returned-number (Err e) = refl
 
 -- words that are none before others
 pub nothing : (l : List ℕ) → length l ≡ 0 → (r : List ℕ) → l ++ r ≡ r
 nothing [] e r = refl
 nothing (x ∷ l) e r = absurd (omega arith)
 
-module _ {limit c : ℕ} {table answer : List ℕ} {a : Needed} where
+module _ {limit c : ℕ} {table answer : List ℕ} {a : Record} where
   pub needed-short : (result scratch : List ℕ) {r s : List ℕ} → length answer < 258 → Promised limit c table (take 0 result) (take 0 scratch) a r s
       → length r ≡ length (take 0 result) → length s ≡ length (take 0 scratch)
-      → NeededCalled limit c table result scratch answer a.refusal (r ++ drop 0 result) (s ++ drop 0 scratch) answer
-  needed-short result scratch {r} {s} h p e f = record {
-    number = rw (lt-ltb (length answer) 258 h) (ap (λ (x : Needed). x.refusal) p.answer);
+      → {x : ℕ} → x ≡ a.refusal → NeededCalled limit c table result scratch answer x (r ++ drop 0 result) (s ++ drop 0 scratch) answer
+  needed-short result scratch {r} {s} h p e f q = record {
+    number = rw (lt-ltb (length answer) 258 h) (q ∙ ap (λ (x : Record). x.refusal) p.answer);
     answer-words = rw (lt-ltb (length answer) 258 h);
     result_words = rw (lt-ltb (length answer) 258 h) (nothing r e result);
     scratch-words = rw (lt-ltb (length answer) 258 h) (nothing s f scratch);
   }
 
   pub needed-told : {result scratch result' scratch' answer' : List ℕ} → 258 ≤ length answer → Promised limit c table result scratch a result' scratch' → PutRecord a answer answer'
-      → NeededCalled limit c table result scratch answer a.refusal result' scratch' answer'
-  needed-told h p w = record {
-    number = rw (le-ltb (length answer) 258 h) (ap (λ (x : Needed). x.refusal) p.answer);
-    answer-words = rw (le-ltb (length answer) 258 h) (w.record-put ∙ ap (λ (x : Needed). fronted (needed_words x) answer) p.answer);
+      → {x : ℕ} → x ≡ a.refusal → NeededCalled limit c table result scratch answer x result' scratch' answer'
+  needed-told h p w q = record {
+    number = rw (le-ltb (length answer) 258 h) (q ∙ ap (λ (x : Record). x.refusal) p.answer);
+    answer-words = rw (le-ltb (length answer) 258 h) (w.record-put ∙ ap (λ (x : Record). fronted (needed_words x) answer) p.answer);
     result_words = rw (le-ltb (length answer) 258 h) p.result_words;
     scratch-words = rw (le-ltb (length answer) 258 h) p.scratch-words;
   }

@@ -3,7 +3,7 @@ use Prim.Native.Nat.{ℕ}
 use mathlib.Core.Path.{◌≡◌, sym, ◌∙◌}
 use mathlib.Core.List.{List}
 use Rattle.k_tuple.specs.Paper.{Paper}
-use Rattle.k_tuple.specs.declared.Unpacked.{Unpacked}
+use Rattle.k_tuple.specs.Answers.{UnpackedRecord}
 use Rattle.exports.specs.Call.{Called}
 use Rattle.exports.specs.Told.{Wrote, Told, Made, Left, UnpackedTo}
 
@@ -14,7 +14,7 @@ wrote_one p q = (p.number ∙ sym q.number, p.words ∙ sym q.words)
 pub told-one : {n : ℕ} {p : Paper} {out : List ℕ} {r s : ℕ} {o o' : List ℕ} → Told n p out r o → Told n p out s o' → (r ≡ s) × (o ≡ o')
 told-one p q = wrote_one p.wrote q.wrote
 
-pub unpacked-one : (u : Unpacked) {out : List ℕ} {r s : ℕ} {o o' : List ℕ} → UnpackedTo u out r o → UnpackedTo u out s o' → (r ≡ s) × (o ≡ o')
+pub unpacked-one : (u : UnpackedRecord) {out : List ℕ} {r s : ℕ} {o o' : List ℕ} → UnpackedTo u out r o → UnpackedTo u out s o' → (r ≡ s) × (o ≡ o')
 unpacked-one u p q = wrote_one p q
 
 pub made_one : {n : ℕ} {p : Paper} {new out told : List ℕ} {r s : ℕ} {o t o' t' : List ℕ} → Made n p new out told r o t → Made n p new out told s o' t' → (r ≡ s) × (o ≡ o') × (t ≡ t')

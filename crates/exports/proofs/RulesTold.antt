@@ -6,9 +6,10 @@ use mathlib.Core.List.{List, [], ◌∷◌}
 use borrow.Author.Tests.{lt-ltb, le-ltb}
 use lib.ListN.{length}
 use Rattle.k_tuple.specs.Paper.{gives}
-use Rattle.abnf.specs.Abnf.{table_of, ReadsAbnf}
-use Rattle.abnf.specs.declared.grammar.TableAnswer.{TableAnswer}
-use Rattle.abnf.specs.declared.grammar.TableAnswer.TheVariants.{Written, Refused}
+use Rattle.abnf.specs.Abnf.{table_of, answer_says, ReadsAbnf}
+use Rattle.abnf_tables.specs.Run.{Run, on, refused}
+use Rattle.abnf_tables.specs.declared.refused.Refused.{Refused}
+use Rattle.std.specs.Prelude.{Result}
 use Rattle.abnf_names.specs.Parts.{nonterminal_part, terminal_part}
 use Rattle.abnf_names.specs.declared.TextPart.{TextPart}
 use Rattle.abnf_names.proofs.Back.{nonterminal-beyond, terminal-beyond}
@@ -16,34 +17,27 @@ use Rattle.exports.specs.Told.{fronted, Wrote, Told}
 use Rattle.exports.specs.Rules.{answer_number, answer_words, refusal_of, ReadFor, part_words}
 use Rattle.exports.proofs.Telling.{told_same}
 
--- the words of an answer, by its variants
-pub written-words : (a : TableAnswer) (n : ℕ) → a ≡ Written n → (n ∷ 0 ∷ []) ≡ answer_words a
-written-words a n e = rw e
-
-pub refused-words : (a : TableAnswer) (m p w : ℕ) → a ≡ Refused m p → w ≡ p → (0 ∷ w ∷ []) ≡ answer_words a
-refused-words a m p w e f = rw (e, f)
-
 -- there are two
-two-words : (a : TableAnswer) → length (answer_words a) ≡ 2
-two-words (Written n) = refl
-two-words (Refused m p) = refl
+two-words : (a : Run ℕ) → length (answer_words a) ≡ 2
+two-words (on n) = refl
+two-words (refused m p) = refl
 
 -- no bytes are lent
-pub no_bytes : {text none after : List ℕ} {a : TableAnswer} {r : ℕ} → ReadsAbnf text none a after → 0 ≡ length none → r ≡ answer_number a → r ≡ refusal_of (table_of text 0)
+pub no_bytes : {text none after : List ℕ} {a : Result ℕ Refused} {r : ℕ} → ReadsAbnf text none a after → 0 ≡ length none → r ≡ answer_number (answer_says a) → r ≡ refusal_of (table_of text 0)
 no_bytes {text} p e f = f ∙ ap answer_number p.answer ∙ ap (λ (n : ℕ). refusal_of (table_of text n)) (sym e)
 
 module _ {text table answer : List ℕ} where
   pub read_short : {r : ℕ} → length answer < 2 → r ≡ refusal_of (table_of text 0) → ReadFor text table answer r table answer
   read_short h e = record { number = rw (lt-ltb (length answer) 2 h) e; bytes = rw (lt-ltb (length answer) 2 h); words = rw (lt-ltb (length answer) 2 h) }
 
-  pub read_whole : {a : TableAnswer} {words table' answer' : List ℕ} {m r : ℕ} → 2 ≤ length answer → ReadsAbnf text table a table' → words ≡ answer_words a
-      → m ≡ answer_number a → Wrote (length words) m words answer r answer' → ReadFor text table answer r table' answer'
+  pub read_whole : {a : Result ℕ Refused} {words table' answer' : List ℕ} {m r : ℕ} → 2 ≤ length answer → ReadsAbnf text table a table' → words ≡ answer_words (answer_says a)
+      → m ≡ answer_number (answer_says a) → Wrote (length words) m words answer r answer' → ReadFor text table answer r table' answer'
   read_whole {a} h p e g t =
-      let told = told_same (ap length e ∙ two-words a) g e t in
+      let told = told_same (ap length e ∙ two-words (answer_says a)) g e t in
       record {
         number = told.number ∙ rw (le-ltb (length answer) 2 h) (ap answer_number p.answer);
         bytes = rw (le-ltb (length answer) 2 h) p.bytes;
-        words = told.words ∙ rw (le-ltb (length answer) 2 h) (ap (λ (b : TableAnswer). fronted (answer_words b) answer) p.answer);
+        words = told.words ∙ rw (le-ltb (length answer) 2 h) (ap (λ (b : Run ℕ). fronted (answer_words b) answer) p.answer);
       }
 
   -- two outcomes that keep the promise are the same

@@ -1,6 +1,6 @@
 -- Numbers that are told in lent words, or refused where these are too few. Assumes nothing.
 use Prim.Native.Nat.{ℕ, ◌+◌, ◌*◌, ◌≤◌, ◌<◌}
-use mathlib.Core.Path.{◌≡◌, refl, sym, ap, ◌∙◌}
+use mathlib.Core.Path.{◌≡◌, refl, ap, ◌∙◌}
 use mathlib.Core.Bool.{Bool, true, false, cond, ◌&&◌}
 use mathlib.Core.List.{List, [], ◌∷◌, ◌++◌}
 use native.Mathlib.Omega.{arith}
@@ -8,13 +8,12 @@ use borrow.Author.Tests.{lt-ltb, le-ltb, lt-leb, le-leb, leb-true}
 use lib.Dec.{leb}
 use lib.ListN.{length, get_or, take, drop}
 use lib.Seq.{take-length}
-use Rattle.k_tuple.specs.Paper.{Paper, gives, number_of, values_of}
-use Rattle.k_tuple.specs.Answers.{string_on_paper}
-use Rattle.k_tuple.specs.declared.StringAnswer as S
-use Rattle.k_tuple.specs.declared.Unpacked.{Unpacked}
-use Rattle.engine.specs.Ask.{there_is, kind_start, set_part}
-use Rattle.exports.specs.declared.Said.{Said}
-use Rattle.exports.specs.Told.{too_few, Wrote, Told, Left, UnpackedTo, unpacked_words, part_of}
+use Rattle.k_tuple.specs.Paper.{Paper, gives, number_of}
+use Rattle.engine.specs.Ask.{there_is, kind_start, place_of, set_part}
+use Rattle.k_tuples.specs.Answers.{set_on_paper}
+use Rattle.refusals.specs.declared.Refusal.{Refusal}
+use Rattle.std.specs.Prelude.{Option, Some, None, Result, Ok, Err}
+use Rattle.exports.specs.Told.{too_few, Wrote, Told, number_told, Left, part_of}
 
 -- ---- words too few: 10, or a refusal that comes before it
 
@@ -52,39 +51,37 @@ told-whole {r₀} {values} {out} h e = record {
 pub told_same : {n m r₀ r₁ : ℕ} {values values' out out' : List ℕ} {r : ℕ} → n ≡ m → r₀ ≡ r₁ → values ≡ values' → Wrote n r₀ values out r out' → Wrote m r₁ values' out r out'
 told_same d e f t = rw d at (rw e at (rw f at t))
 
--- one number, of a paper by any name
-pub one_told : {p p' : Paper} {s : Said} {out out' : List ℕ} {r : ℕ} → p ≡ p' → s.number ≡ number_of p → (s.value ∷ []) ≡ values_of p → Wrote 1 s.number (s.value ∷ []) out r out' → Told 1 p' out r out'
-one_told {p} {p'} {s} e n v t = record { wrote = told_same refl (n ∙ ap number_of e) (v ∙ ap values_of e) t }
-
 pub named-told : {p p' : Paper} {n : ℕ} {out out' : List ℕ} {r : ℕ} → p ≡ p' → Told n p out r out' → Told n p' out r out'
 named-told e t = rw e at t
 
--- a string has two words, given or refused
-string-length : (a : S.StringAnswer) → length (values_of (string_on_paper a)) ≡ 2
-string-length (S.TheVariants.Is t) = refl
-string-length (S.TheVariants.Refused r) = refl
+-- a set, and the number of its result
+set-number : (r : Result (Unit {0}) Refusal) → number_told r ≡ number_of (set_on_paper r)
+set-number (Ok x) = refl
+set-number (Err e) = refl
 
-pub string-told : (a : S.StringAnswer) {n : ℕ} {values out out' : List ℕ} {r : ℕ} → n ≡ number_of (string_on_paper a) → values ≡ values_of (string_on_paper a) → Wrote (length values) n values out r out' → Told 2 (string_on_paper a) out r out'
-string-told a e f t = record { wrote = told_same (ap length f ∙ string-length a) e f t }
-
-pub unpacked-told : {u u' : Unpacked} {values out out' : List ℕ} {r : ℕ} → u ≡ u' → values ≡ unpacked_words u → Wrote (length values) u.refused values out r out' → UnpackedTo u' out r out'
-unpacked-told {u} e f t = told_same (ap length f) (ap (λ (x : Unpacked). x.refused) e) (f ∙ ap unpacked_words e) t
-
--- a set, and the number of a paper by any name
-pub set-left : {n : ℕ} {p p' : Paper} {new out' : List ℕ} → n ≡ number_of p → p ≡ p' → out' ≡ new → Left p' new n out'
-set-left h e f = record { number = h ∙ ap number_of e; words = f }
+pub set-left : (r : Result (Unit {0}) Refusal) {n : ℕ} {p : Paper} {new out' : List ℕ} → n ≡ number_told r → set_on_paper r ≡ p → out' ≡ new → Left p new n out'
+set-left r h e f = record { number = h ∙ set-number r ∙ ap number_of e; words = f }
 
 -- ---- the part of a set
 
 module _ (words kind number n p q c : ℕ) where
-  module _ {r : Bool} (e : r ≡ there_is words kind number n p q c) where
-    pub no_part : r ≡ false → (0 ∷ 0 ∷ []) ≡ part_of words kind number n p q c
-    unfolding part_of
-    no_part f = rw (sym e ∙ f)
+  pub no_part : None ≡ place_of words kind number n p q c → (0 ∷ 0 ∷ []) ≡ part_of words kind number n p q c
+  unfolding part_of
+  no_part = by (there_is words kind number n p q c)
+    where
+      by : (b : Bool) → ◌≡◌ {A = Option ℕ} None (cond b (Some ((kind_start kind n p + number) * (2 * c + 1))) None)
+          → (0 ∷ 0 ∷ []) ≡ cond b ((kind_start kind n p + number) * (2 * c + 1) ∷ (2 * c + 1) ∷ []) (0 ∷ 0 ∷ [])
+      by true e = cc
+      by false e = refl
 
-    pub some-part : {start : ℕ} → r ≡ true → start ≡ kind_start kind n p → ((start + number) * (2 * c + 1) ∷ (2 * c + 1) ∷ []) ≡ part_of words kind number n p q c
-    unfolding part_of
-    some-part f s = rw (sym e ∙ f, s)
+  pub some-part : {at : ℕ} → Some at ≡ place_of words kind number n p q c → (at ∷ (2 * c + 1) ∷ []) ≡ part_of words kind number n p q c
+  unfolding part_of
+  some-part {at} = by (there_is words kind number n p q c)
+    where
+      by : (b : Bool) → Some at ≡ cond b (Some ((kind_start kind n p + number) * (2 * c + 1))) None
+          → (at ∷ (2 * c + 1) ∷ []) ≡ cond b ((kind_start kind n p + number) * (2 * c + 1) ∷ (2 * c + 1) ∷ []) (0 ∷ 0 ∷ [])
+      by true e = cc
+      by false e = cc
 
   part_length : length (part_of words kind number n p q c) ≡ 2
   unfolding part_of

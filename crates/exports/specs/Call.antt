@@ -3,12 +3,11 @@ use Rattle.std.specs.Prelude.{ℕ, ◌≡◌, List, [], ◌∷◌, length, get_o
 use Rattle.cfg.specs.Write.{Bytes}
 use Rattle.k_tuples.specs.Work.{Answer}
 use Rattle.analysis.specs.Analysis.{Analysis, analyse}
-use Rattle.engine.specs.declared.Lookahead.{Lookahead}
-use Rattle.engine.specs.Call.{answer_of, result_needed, scratch_needed, result_after, scratch_after}
+use Rattle.engine.specs.Call.{Record, answer_of, result_needed, scratch_needed, result_after, scratch_after}
 use Rattle.exports.specs.Told.{Wrote, unless_few}
 
 -- The record's numbers in order: refusal, n, p, q, width, ten rounds, rounds of FOLLOW.
-abbrev pub record_words : Lookahead → List ℕ
+abbrev pub record_words : Record → List ℕ
 record_words a =
     a.refusal ∷ a.n ∷ a.p ∷ a.q ∷ a.width ∷
     get_or a.rounds 0 0 ∷ get_or a.rounds 1 0 ∷ get_or a.rounds 2 0 ∷ get_or a.rounds 3 0 ∷ get_or a.rounds 4 0 ∷
@@ -19,7 +18,7 @@ record_words a =
 abbrev pub worked : (k c : ℕ) (table result scratch : List ℕ) → Answer Analysis
 worked k c table result scratch = analyse k c table (length result) (length scratch)
 
-abbrev pub answer_for : (k c : ℕ) (table result scratch : List ℕ) → Lookahead
+abbrev pub answer_for : (k c : ℕ) (table result scratch : List ℕ) → Record
 answer_for k c table result scratch = answer_of (worked k c table result scratch)
 
 -- The record is told in the words of answer, and the engine's promise is kept in those of result and scratch; the table is bytes, so that all that is

@@ -5,17 +5,16 @@ use Rattle.engine.specs.Call.{result_needed, scratch_needed}
 use Rattle.decision_theory.specs.Needed.{needed_ks}
 use Rattle.decision_theory.specs.Marking.{mark}
 use Rattle.decision.specs.Call.{words_after}
-use Rattle.marking.specs.declared.answer.Mark.{Mark}
 use Rattle.marking.specs.Rows.{rows_in}
-use Rattle.marking.specs.Call.{width_in, record_of}
+use Rattle.marking.specs.Call.{Record, width_in, record_of}
 use Rattle.exports.specs.Told.{few, unless_few, fronted}
 
 -- What the call answers with what was lent.
-abbrev pub mark_of : (limit c : ℕ) (table rows result scratch : List ℕ) → Mark
+abbrev pub mark_of : (limit c : ℕ) (table rows result scratch : List ℕ) → Record
 mark_of limit c table rows result scratch = record_of (width_in table) (mark limit c table (length result) (length scratch) (rows_in (width_in table) rows))
 
 -- Its numbers behind the refusal.
-abbrev pub mark_words : Mark → List ℕ
+abbrev pub mark_words : Record → List ℕ
 mark_words m = m.row ∷ m.nonterminal ∷ m.lo ∷ m.hi ∷ []
 
 -- The call's promise is kept in its words, and its numbers are told in four words. Where those are not lent, the number is the refusal of a call with no words

@@ -1,21 +1,19 @@
 -- What the functions for C leave that read a register's rules: a refusal by its number, the table in lent bytes, and numbers in lent words. Assumes nothing.
 use Rattle.std.specs.Prelude.{ℕ, ◌-◌, ◌≡◌, cond, List, [], ◌∷◌, length}
-use Rattle.abnf_tables.specs.Run.{Run}
+use Rattle.abnf_tables.specs.Run.{Run, on, refused}
 use Rattle.abnf.specs.Abnf.{table_of, answer_of, bytes_after}
-use Rattle.abnf.specs.declared.grammar.TableAnswer.{TableAnswer}
-use Rattle.abnf.specs.declared.grammar.TableAnswer.TheVariants.{Written, Refused}
 use Rattle.abnf_names.specs.declared.TextPart.{TextPart}
 use Rattle.exports.specs.Told.{few, unless_few, fronted}
 
 -- The number of a refusal, 0 where a table is written.
-abbrev pub answer_number : TableAnswer → ℕ
-answer_number (Written n) = 0
-answer_number (Refused number place) = number
+abbrev pub answer_number : Run ℕ → ℕ
+answer_number (on n) = 0
+answer_number (refused number place) = number
 
 -- How many bytes are written, and the place of a refusal.
-abbrev pub answer_words : TableAnswer → List ℕ
-answer_words (Written n) = n ∷ 0 ∷ []
-answer_words (Refused number place) = 0 ∷ place ∷ []
+abbrev pub answer_words : Run ℕ → List ℕ
+answer_words (on n) = n ∷ 0 ∷ []
+answer_words (refused number place) = 0 ∷ place ∷ []
 
 abbrev pub refusal_of : Run (List ℕ) → ℕ
 refusal_of r = answer_number (answer_of r)

@@ -1,7 +1,9 @@
 -- What the functions for C leave: a refusal by its number, numbers in lent words, and what is done where those words are too few. Assumes nothing.
-use Rattle.std.specs.Prelude.{ℕ, ◌+◌, ◌*◌, ◌≡◌, Bool, cond, ◌&&◌, List, [], ◌∷◌, ◌++◌, leb, ltb, length, get_or, drop}
-use Rattle.k_tuple.specs.Paper.{Paper, number_of, values_of}
-use Rattle.k_tuple.specs.declared.Unpacked.{Unpacked}
+use Rattle.std.specs.Prelude.{ℕ, ◌+◌, ◌*◌, ◌≡◌, Bool, cond, ◌&&◌, List, [], ◌∷◌, ◌++◌, leb, ltb, length, get_or, drop, replicate, Result, Ok, Err}
+use Rattle.refusals.specs.Numbers.{number}
+use Rattle.refusals.specs.declared.Refusal.{Refusal}
+use Rattle.k_tuple.specs.Paper.{Paper, refused, gives, number_of, values_of}
+use Rattle.k_tuple.specs.Answers.{UnpackedRecord}
 use Rattle.engine.specs.Ask.{there_is, kind_start}
 
 -- ---- words too few, for any call
@@ -37,6 +39,16 @@ pub record Wrote (n r₀ : ℕ) (values out : List ℕ) (r : ℕ) (out' : List �
 pub record Told (n : ℕ) (p : Paper) (out : List ℕ) (r : ℕ) (out' : List ℕ) : Type 0 where
   pub wrote : Wrote n (number_of p) (values_of p) out r out'
 
+-- The number of a result's refusal, 0 where there is none.
+abbrev pub number_told : {A : Type 0} → Result A Refusal → ℕ
+number_told (Ok x) = 0
+number_told (Err e) = number e
+
+-- A result of n numbers on paper.
+abbrev pub on_paper : ℕ → Result (List ℕ) Refusal → Paper
+on_paper n (Ok v) = gives v
+on_paper n (Err e) = refused (number e) (replicate n 0)
+
 -- A set operation that tells its refusal's number alone, and leaves the words new.
 pub record Left (p : Paper) (new : List ℕ) (r : ℕ) (out' : List ℕ) : Type 0 where
   pub number : r ≡ number_of p
@@ -50,13 +62,16 @@ pub record Made (n : ℕ) (p : Paper) (new out told : List ℕ) (r : ℕ) (out' 
 -- ---- a string unpacked
 
 -- What it leaves: its length and ten slots.
-abbrev pub unpacked_words : Unpacked → List ℕ
-unpacked_words u =
-    u.length ∷
-    get_or u.slots 0 0 ∷ get_or u.slots 1 0 ∷ get_or u.slots 2 0 ∷ get_or u.slots 3 0 ∷ get_or u.slots 4 0 ∷
-    get_or u.slots 5 0 ∷ get_or u.slots 6 0 ∷ get_or u.slots 7 0 ∷ get_or u.slots 8 0 ∷ get_or u.slots 9 0 ∷ []
+abbrev pub slot_words : ℕ → List ℕ → List ℕ
+slot_words length slots =
+    length ∷
+    get_or slots 0 0 ∷ get_or slots 1 0 ∷ get_or slots 2 0 ∷ get_or slots 3 0 ∷ get_or slots 4 0 ∷
+    get_or slots 5 0 ∷ get_or slots 6 0 ∷ get_or slots 7 0 ∷ get_or slots 8 0 ∷ get_or slots 9 0 ∷ []
 
-abbrev pub UnpackedTo : Unpacked → List ℕ → ℕ → List ℕ → Type 0
+abbrev pub unpacked_words : UnpackedRecord → List ℕ
+unpacked_words u = slot_words u.length u.slots
+
+abbrev pub UnpackedTo : UnpackedRecord → List ℕ → ℕ → List ℕ → Type 0
 UnpackedTo u out r out' = Wrote 11 u.refused (unpacked_words u) out r out'
 
 -- ---- the part of a set

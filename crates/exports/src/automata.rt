@@ -2,7 +2,7 @@
 ghost use Rattle.std.specs.Prelude.{length};
 ghost use Rattle.exports.specs.Automata.{AutomataCalled};
 
-use crate::tell;
+use crate::{alone, refusal_number, tell};
 use lookahead::automata;
 
 // The automata of a table's nonterminals in turn, in lent bytes, up to a limit of k and with room for c members in each set. The answer takes one word: how
@@ -27,9 +27,9 @@ pub fn jomankitu_automata(
             &mut res[..0],
             &mut scratch[..0],
         );
-        return few.refusal;
+        return refusal_number(&few);
     }
-    let a = automata(limit, c, table, out, res, scratch);
-    let words = [a.bytes];
-    tell(answer, a.refusal, &words)
+    let made = automata(limit, c, table, out, res, scratch);
+    let words = alone(made.unwrap_or(0) as u64);
+    tell(answer, refusal_number(&made), &words)
 }

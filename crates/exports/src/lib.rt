@@ -3,13 +3,14 @@
 #![tactic(auto)]
 
 ghost use Rattle.std.specs.Prelude.{◌≡◌, length, [], ◌∷◌};
-ghost use Rattle.k_tuple.specs.Paper.{gives};
-ghost use Rattle.exports.specs.Told.{too_few, Wrote, Told, part_of};
+ghost use Rattle.k_tuple.specs.Paper.{flag, gives};
+ghost use Rattle.exports.specs.Told.{too_few, Wrote, Told, number_told, on_paper, part_of};
+ghost use Rattle.engine.specs.Call.{record_of};
 ghost use Rattle.exports.specs.Call.{record_words, Called};
 
-use engine::ask::{kind_start, there_is};
+use engine::ask::place;
 use k_tuples::set::copy_front;
-use lookahead::{Lookahead, lookahead_sets};
+use lookahead::{Lookahead, Refusal, lookahead_sets};
 
 pub mod automata;
 pub mod mark;
@@ -17,13 +18,6 @@ pub mod needed;
 pub mod rules;
 pub mod sets;
 pub mod strings;
-
-// A refusal and one number.
-#[derive(Clone, Copy)]
-pub struct Said {
-    pub number: u64,
-    pub value: u64,
-}
 
 // The refusal where the words for an answer are too few: 10, but first what comes before it in the table.
 fn too_few(refusal: u64) -> u64
@@ -50,23 +44,52 @@ fn tell(out: &mut [u64], refusal: u64, values: &[u64]) -> u64
     refusal
 }
 
-// Tells a refusal, and one number in a lent word.
-fn tell_one(out: &mut [u64], s: Said) -> u64
-    ensures { Wrote 1 s.number (s.value ∷ []) out.old result out.new }
+// The number of a result's refusal, 0 where there is none.
+fn refusal_number<T: Drop>(r: &Result<T, Refusal>) -> u64
+    ensures { result ≡ number_told r.now }
 {
-    let words = [s.value];
-    tell(out, s.number, &words)
+    match r {
+        Ok(_) => 0,
+        Err(e) => u64::from(*e),
+    }
 }
 
-// The numbers of the engine's record.
-fn record_words(a: Lookahead) -> [u64; 16]
-    ensures { result ≡ record_words a }
+// Tells a result: its N numbers in lent words, or zeros, and its refusal.
+fn tell_result<const N: usize>(out: &mut [u64], said: Result<[u64; N], Refusal>) -> u64
+    ensures { Told N (on_paper N said.entry) out.old result out.new }
 {
-    let rounds = a.rounds;
-    [
-        a.refusal, a.n, a.p, a.q, a.width, rounds[0], rounds[1], rounds[2], rounds[3], rounds[4],
-        rounds[5], rounds[6], rounds[7], rounds[8], rounds[9], a.follow,
-    ]
+    let number = refusal_number(&said);
+    tell(out, number, &said.unwrap_or([0; N]))
+}
+
+// One number to tell.
+fn alone(n: u64) -> [u64; 1]
+    ensures { result ≡ n ∷ [] }
+{
+    [n]
+}
+
+// Yes or no as one number: 1 or 0.
+fn flag(b: bool) -> [u64; 1]
+    ensures { result ≡ flag b }
+{
+    [u64::from(b)]
+}
+
+// The numbers of the engine's answer: that of its refusal, and zeros; or 0, and the answer's.
+fn record_words(a: Result<Lookahead, Refusal>) -> [u64; 16]
+    ensures { result ≡ record_words (record_of a) }
+{
+    match a {
+        Ok(l) => {
+            let r = l.rounds;
+            [
+                0, l.n, l.p, l.q, l.width, r[0], r[1], r[2], r[3], r[4], r[5], r[6], r[7], r[8],
+                r[9], l.follow,
+            ]
+        }
+        Err(e) => [u64::from(e), 0, 0, 0, 0, 0, 0, 0, 0, 0, 0, 0, 0, 0, 0, 0],
+    }
 }
 
 // FIRST and FOLLOW of a table at k, with room for c members in each set. The answer takes sixteen words; where they are too few the engine is asked
@@ -83,11 +106,10 @@ pub fn jomankitu_lookahead_sets(
 {
     if answer.len() < 16 {
         let few = lookahead_sets(k, c, table, &mut res[..0], &mut scratch[..0]);
-        return few.refusal;
+        return refusal_number(&few);
     }
     let a = lookahead_sets(k, c, table, res, scratch);
-    let words = record_words(a);
-    tell(answer, a.refusal, &words)
+    tell(answer, refusal_number(&a), &record_words(a))
 }
 
 // Where the part of a set begins, and its length.
@@ -102,12 +124,10 @@ fn part_of(
 ) -> [u64; 2]
     ensures { result ≡ part_of len kind number n p q c }
 {
-    if there_is(len, kind, number, n, p, q, c) {} else {
-        return [0, 0];
+    match place(len, kind, number, n, p, q, c) {
+        Some(at) => [at as u64, 2 * c as u64 + 1],
+        None => [0, 0],
     }
-    let size = 2 * c + 1;
-    let at = (kind_start(kind, n, p) + number) * size;
-    [at as u64, size as u64]
 }
 
 // Where in a result of so many words the part of a set begins, and its length, in two words; 0 and 0 where there is no such set.

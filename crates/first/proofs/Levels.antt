@@ -17,20 +17,20 @@ use Rattle.k_tuples.proofs.States.{set_of-replicate}
 use Rattle.k_tuples.proofs.Blocks.{length-sets}
 use Rattle.cfg.specs.Written.{productions_of}
 use Rattle.cfg.specs.Marks.{no_marks}
+use Rattle.std.specs.Prelude.{Result, Ok, Err}
+use Rattle.refusals.specs.declared.Refusal.{Refusal}
+use Rattle.refusals.specs.declared.Refusal.TheVariants.{NotSettled}
 use Rattle.blocks.specs.Stores.{Turned, Raised}
 use Rattle.blocks.proofs.Stores.{turned-store, turned-sets, turned-beyond}
 use Rattle.blocks.proofs.Fronts.{front-start, front_same, front-then, front-all}
 use Rattle.first_theory.specs.Compute.{Worked, round, level, levels, first}
 use Rattle.first.specs.declared.Setup.{Setup}
 use Rattle.first.specs.declared.round.Round.{Round}
-use Rattle.first.specs.declared.round.Round.TheVariants.{Same, Changed, Full}
-use Rattle.first.specs.declared.Ending.{Ending}
-use Rattle.first.specs.declared.Ending.TheVariants.{Settled, Refused}
-use Rattle.first.specs.declared.level.LevelRounds.{LevelRounds}
+use Rattle.first.specs.declared.round.Round.TheVariants.{Same, Changed}
 use Rattle.first.specs.Steps.{result_sets, scratch_sets, old_sets, room, Ready, ReadyBelow, Free}
-use Rattle.first.specs.Rounds.{grammar_in, InResult, round_full, round_told, RoundDone, Rounded}
+use Rattle.first.specs.Rounds.{grammar_in, InResult, round_told, RoundDone, Rounded}
 use Rattle.first.specs.Due.{due_of, Known, Alike}
-use Rattle.first.specs.Levels.{Moved, LevelEnds, Levelled, LevelsRun}
+use Rattle.first.specs.Levels.{Moved, LevelEnds, Levelled, LevelsEnd, LevelsRun}
 use Rattle.first.proofs.Known.{not-due, agree-below, new-same, round-new}
 
 told_same : (b : Bool) → Same ≡ round_told b → b ≡ true
@@ -89,7 +89,7 @@ module _ {u : Setup} {k : ℕ} {result scratch result₁ scratch₁ : List ℕ} 
   moved-raised at = record { in-result = front_same result-raised; in-scratch = front_same scratch-raised }
 
   -- and the rounds after them
-  pub level-raised : {at : ℕ} {result₂ scratch₂ : List ℕ} {e : Ending} (words : List ℕ)
+  pub level-raised : {at : ℕ} {result₂ scratch₂ : List ℕ} {e : Result ℕ Refusal} (words : List ℕ)
       → Levelled u at k (level (room u) (grammar_in u words) k (old_sets u result₁)) e result₁ scratch₁ result₂ scratch₂
       → Levelled u at k (level (room u) (grammar_in u words) k (old_sets u result)) e result scratch result₂ scratch₂
   level-raised {at} {result₂} {scratch₂} {e} words m =
@@ -101,10 +101,10 @@ module _ {u : Setup} {k : ℕ} {result scratch result₁ scratch₁ : List ℕ} 
         scratch-beyond = m.scratch-beyond ∙ turned-beyond scratch-raised;
       }
     where
-      by : (e : Ending) → LevelEnds u at k (level (room u) (grammar_in u words) k (old_sets u result)) e result₁ scratch₁ result₂ scratch₂
+      by : (e : Result ℕ Refusal) → LevelEnds u at k (level (room u) (grammar_in u words) k (old_sets u result)) e result₁ scratch₁ result₂ scratch₂
           → LevelEnds u at k (level (room u) (grammar_in u words) k (old_sets u result)) e result scratch result₂ scratch₂
-      by (Settled n) h = (h.0, moved_then (moved-raised at) h.1)
-      by (Refused n) h = h
+      by (Ok n) h = (h.0, moved_then (moved-raised at) h.1)
+      by (Err n) h = h
 
 -- ---- what is due
 
@@ -142,78 +142,77 @@ level_from u k words left done X = settle (round (room u) (grammar_in u words) k
 abbrev after : Setup → ℕ → List ℕ → ℕ → ℕ → State → Bool → Answer Settling
 after u k words left done Y same = elim same [ true ↦ got (record { sets = Y; rounds = suc done }) | false ↦ level_from u k words left (suc done) Y ]
 
-pub record Climbing (u : Setup) (at k : ℕ) (words result₀ scratch₀ : List ℕ) (left done : ℕ) (result scratch : List ℕ) : Type 0 where
-  pub sum : left + done ≡ suc u.n
+-- so many rounds are done, of n + 1
+pub record Climbing (u : Setup) (at k : ℕ) (words result₀ scratch₀ : List ℕ) (done : ℕ) (result scratch : List ℕ) : Type 0 where
   pub moved : Moved u at k result₀ scratch₀ result scratch
-  pub to-come : level_from u k words left done (old_sets u result) ≡ level (room u) (grammar_in u words) k (old_sets u result₀)
+  pub to-come : level_from u k words (u.n + 1 - done) done (old_sets u result) ≡ level (room u) (grammar_in u words) k (old_sets u result₀)
 
-pub climb-start : {u : Setup} (at : ℕ) {k : ℕ} (words : List ℕ) {result₀ scratch₀ : List ℕ} → Ready u k result₀ scratch₀ → Climbing u at k words result₀ scratch₀ (u.n + 1) 0 result₀ scratch₀
+pub climb-start : {u : Setup} (at : ℕ) {k : ℕ} (words : List ℕ) {result₀ scratch₀ : List ℕ} → Ready u k result₀ scratch₀ → Climbing u at k words result₀ scratch₀ 0 result₀ scratch₀
 unfolding level
-climb-start at words r = record { sum = omega arith; moved = moved-start at r; to-come = rw add-one }
+climb-start {u} at words r = let all : u.n + 1 - 0 ≡ suc u.n = omega arith in record { moved = moved-start at r; to-come = rw all }
 
-module _ {u : Setup} {at k : ℕ} {words result₀ scratch₀ : List ℕ} {left done : ℕ} {result scratch : List ℕ} (climb : Climbing u at k words result₀ scratch₀ left done result scratch) where
+module _ {u : Setup} {at k : ℕ} {words result₀ scratch₀ : List ℕ} {done : ℕ} {result scratch : List ℕ} (climb : Climbing u at k words result₀ scratch₀ done result scratch) where
   -- no round more
-  pub climb-late : left ≤ 0 → Levelled u at k (level (room u) (grammar_in u words) k (old_sets u result₀)) (Refused 12) result₀ scratch₀ result scratch
+  pub climb-late : u.n + 1 ≤ done → Levelled u at k (level (room u) (grammar_in u words) k (old_sets u result₀)) (Err NotSettled) result₀ scratch₀ result scratch
   unfolding settle
   climb-late h =
-      let none : left ≡ 0 = omega arith in
+      let none : u.n + 1 - done ≡ 0 = omega arith in
       record {
-        ends = (sym climb.to-come ∙ rw none, omega arith);
+        ends = sym climb.to-come ∙ rw none;
         result-beyond = climb.moved.in-result.beyond;
         scratch-beyond = climb.moved.in-scratch.beyond;
       }
 
   -- one round more
-  module _ (some : 0 < left) {r : Round} {result' scratch' : List ℕ}
-      (m : Rounded u at k (round (room u) (grammar_in u words) k (old_sets u result)) r result scratch result' scratch') where
+  module _ (some : done < u.n + 1) where
+    abbrev left : ℕ
+    left = u.n - done
+
     next : level (room u) (grammar_in u words) k (old_sets u result₀)
-        ≡ (round (room u) (grammar_in u words) k (old_sets u result) >>= λ Y. after u k words (left - 1) done Y (same_sets Y (old_sets u result)))
+        ≡ (round (room u) (grammar_in u words) k (old_sets u result) >>= λ Y. after u k words left done Y (same_sets Y (old_sets u result)))
     unfolding settle
     next =
-        let one : left ≡ suc (left - 1) = omega arith in
+        let one : u.n + 1 - done ≡ suc left = omega arith in
         sym climb.to-come ∙ ap (λ (l : ℕ). level_from u k words l done (old_sets u result)) one
 
-    pub climb-over : r ≡ Full → Levelled u at k (level (room u) (grammar_in u words) k (old_sets u result₀)) (Refused 11) result₀ scratch₀ result' scratch'
-    climb-over e =
+    pub climb-over : {e : Refusal} {result' scratch' : List ℕ} → Rounded u at k (round (room u) (grammar_in u words) k (old_sets u result)) (Err e) result scratch result' scratch'
+        → Levelled u at k (level (room u) (grammar_in u words) k (old_sets u result₀)) (Err e) result₀ scratch₀ result' scratch'
+    climb-over m =
         record {
-          ends = (next ∙ rw (m.over (ap round_full e)), omega arith);
+          ends = next ∙ rw (m.ends.0, m.ends.1);
           result-beyond = m.result-beyond ∙ climb.moved.in-result.beyond;
           scratch-beyond = m.scratch-beyond ∙ climb.moved.in-scratch.beyond;
         }
 
-    module _ (d : RoundDone u at k (round (room u) (grammar_in u words) k (old_sets u result)) r result scratch result' scratch') where
+    module _ {t : Round} {result' scratch' : List ℕ} (m : Rounded u at k (round (room u) (grammar_in u words) k (old_sets u result)) (Ok t) result scratch result' scratch') where
+      abbrev d : RoundDone u at k (round (room u) (grammar_in u words) k (old_sets u result)) t result scratch result' scratch'
+      d = m.ends
+
       step-moved : Moved u at k result₀ scratch₀ result' scratch'
       step-moved = moved_then climb.moved (record { in-result = rw d.in-result.front d.in-result; in-scratch = rw d.in-scratch.front d.in-scratch })
 
-      told : (same : Bool) → same_sets d.new (old_sets u result) ≡ same → level (room u) (grammar_in u words) k (old_sets u result₀) ≡ after u k words (left - 1) done (old_sets u result') same
+      told : (same : Bool) → same_sets d.new (old_sets u result) ≡ same → level (room u) (grammar_in u words) k (old_sets u result₀) ≡ after u k words left done (old_sets u result') same
       told same e =
-          next ∙ ap (λ (a : Answer State). a >>= λ Y. after u k words (left - 1) done Y (same_sets Y (old_sets u result))) d.made
-          ∙ ap₂ (after u k words (left - 1) done) (sym d.in-result.front) e
+          next ∙ ap (λ (a : Answer State). a >>= λ Y. after u k words left done Y (same_sets Y (old_sets u result))) d.made
+          ∙ ap₂ (after u k words left done) (sym d.in-result.front) e
 
-      settled : r ≡ Same → Levelled u at k (level (room u) (grammar_in u words) k (old_sets u result₀)) (Settled (done + 1)) result₀ scratch₀ result' scratch'
-      settled e =
+      pub climb-settled : t ≡ Same → Levelled u at k (level (room u) (grammar_in u words) k (old_sets u result₀)) (Ok (done + 1)) result₀ scratch₀ result' scratch'
+      climb-settled e =
           record {
             ends = (told true (told_same _ (sym e ∙ d.told)) ∙ rw add-one, step-moved);
             result-beyond = step-moved.in-result.beyond;
             scratch-beyond = step-moved.in-scratch.beyond;
           }
 
-      changed : r ≡ Changed → Climbing u at k words result₀ scratch₀ (left - 1) (done + 1) result' scratch'
-      changed e =
+      pub climb-known : {same : List Bool} → u.n ≤ 128 → Free u at → Alike u same result result' → Known u k words (due_of same (productions_of u.p words)) result' scratch'
+      climb-known few free alike = known_next words few free alike d
+
+      pub climb-more : t ≡ Changed → Climbing u at k words result₀ scratch₀ (done + 1) result' scratch'
+      climb-more e =
           record {
-            sum = omega (arith, climb.sum);
             moved = step-moved;
-            to-come = rw add-one (sym (told false (told-changed _ (sym e ∙ d.told))));
+            to-come = let less : u.n + 1 - (done + 1) ≡ left = omega arith in rw (less, add-one) (sym (told false (told-changed _ (sym e ∙ d.told))));
           }
-
-    pub climb-settled : r ≡ Same → Levelled u at k (level (room u) (grammar_in u words) k (old_sets u result₀)) (Settled (done + 1)) result₀ scratch₀ result' scratch'
-    climb-settled e = settled (m.done (ap round_full e)) e
-
-    pub climb-known : {same : List Bool} → u.n ≤ 128 → Free u at → r ≡ Changed → (round_full r ≡ false → Alike u same result result') → Known u k words (due_of same (productions_of u.p words)) result' scratch'
-    climb-known few free e alike = known_next words few free (alike (ap round_full e)) (m.done (ap round_full e))
-
-    pub climb-more : r ≡ Changed → Climbing u at k words result₀ scratch₀ (left - 1) (done + 1) result' scratch'
-    climb-more e = changed (m.done (ap round_full e)) e
 
 -- ---- all levels
 
@@ -275,58 +274,52 @@ run-start {u} at k words {result₀} ready =
 
 module _ {u : Setup} {at k : ℕ} {words result₀ scratch₀ : List ℕ} {i : ℕ} {rounds : List ℕ} {result scratch : List ℕ} (run : Running u at k words result₀ scratch₀ i rounds result scratch) where
   -- ready for the next level
-  pub run-ready : Ready u 1 result₀ scratch₀ → (number : ℕ) → number ≡ suc i → number ≤ 10 → ReadyBelow u number result scratch
-  run-ready ready number same few =
+  pub run-ready : Ready u 1 result₀ scratch₀ → (order : ℕ) → order ≡ suc i → order ≤ 10 → ReadyBelow u order result scratch
+  run-ready ready order same few =
       let most = reached-most i in
       record { j = reached i; low = omega (arith, most); high = few; ready = moved_ready run.moved ready (reached-least i) (omega (arith, most)) }
 
   -- no level more
-  pub run_end : 1 ≤ k → k ≤ i → LevelsRun u at k (levels_from u words k 0 (old_sets u result₀)) (record { refusal = 0; rounds = rounds }) result₀ scratch₀ result scratch
+  pub run_end : 1 ≤ k → k ≤ i → LevelsRun u at k (levels_from u words k 0 (old_sets u result₀)) (Ok rounds) result₀ scratch₀ result scratch
   unfolding levels
   run_end some h =
       let none : k - i ≡ 0 = omega arith in
       let all : i ≡ k = omega (arith, run.within) in
       record {
-        done = λ _. record {
+        ends = record {
           made = run.to-come ∙ rw none (rw all (ap (λ (l : List ℕ). got (record { sets = old_sets u result; rounds = l })) (append-nil (take k rounds))));
           unused = rw (← all) run.unused;
           moved = subst (λ (j : ℕ). Moved u at j result₀ scratch₀ result scratch) (ap reached all ∙ reached-some k some) run.moved;
         };
-        refusal = λ n. absurd (n refl);
         result-beyond = run.moved.in-result.beyond;
         scratch-beyond = run.moved.in-scratch.beyond;
       }
 
   -- one level more
-  module _ (more : i < k) (number : ℕ) (same : number ≡ suc i) {r : Ending} {result' scratch' : List ℕ}
-      (m : Levelled u at number (level (room u) (grammar_in u words) number (old_sets u result)) r result scratch result' scratch') where
-    level-next : levels_from u words k 0 (old_sets u result₀) ≡ level_then u words (k - (i + 1)) (suc i) (take i rounds) (level (room u) (grammar_in u words) number (old_sets u result))
+  module _ (more : i < k) (order : ℕ) (same : order ≡ suc i) where
+    level-next : levels_from u words k 0 (old_sets u result₀) ≡ level_then u words (k - (i + 1)) (suc i) (take i rounds) (level (room u) (grammar_in u words) order (old_sets u result))
     unfolding levels
     level-next =
         let one : k - i ≡ suc (k - (i + 1)) = omega arith in
         run.to-come ∙ ap (λ (left : ℕ). behind (take i rounds) (levels_from u words left i (old_sets u result))) one
         ∙ ap (λ (q : ℕ). level_then u words (k - (i + 1)) (suc i) (take i rounds) (level (room u) (grammar_in u words) q (old_sets u result))) (sym same)
 
-    ends_as : (s : Ending) → r ≡ s → LevelEnds u at number (level (room u) (grammar_in u words) number (old_sets u result)) s result scratch result' scratch'
-    ends_as s q = subst (λ (r : Ending). LevelEnds u at number (level (room u) (grammar_in u words) number (old_sets u result)) r result scratch result' scratch') q m.ends
-
-    pub run-refused : (e : ℕ) → r ≡ Refused e → LevelsRun u at k (levels_from u words k 0 (old_sets u result₀)) (record { refusal = e; rounds = replicate 10 0 }) result₀ scratch₀ result' scratch'
-    run-refused e q =
-        let ends = ends_as (Refused e) q in
+    pub run-refused : {e : Refusal} {result' scratch' : List ℕ} → Levelled u at order (level (room u) (grammar_in u words) order (old_sets u result)) (Err e) result scratch result' scratch'
+        → LevelsRun u at k (levels_from u words k 0 (old_sets u result₀)) (Err e) result₀ scratch₀ result' scratch'
+    run-refused m =
         record {
-          done = λ n. absurd (omega (arith, ends.1));
-          refusal = λ _. (level-next ∙ rw ends.0, refl);
+          ends = level-next ∙ rw m.ends;
           result-beyond = m.result-beyond ∙ run.moved.in-result.beyond;
           scratch-beyond = m.scratch-beyond ∙ run.moved.in-scratch.beyond;
         }
 
-    pub run_more : (few : k ≤ 10) (n : ℕ) → r ≡ Settled n → Running u at k words result₀ scratch₀ (i + 1) (set rounds i n) result' scratch'
-    run_more few n q =
-        let ends = ends_as (Settled n) q in
+    pub run_more : {n : ℕ} {result' scratch' : List ℕ} → Levelled u at order (level (room u) (grammar_in u words) order (old_sets u result)) (Ok n) result scratch result' scratch' → k ≤ 10 → Running u at k words result₀ scratch₀ (i + 1) (set rounds i n) result' scratch'
+    run_more {n} {result'} {scratch'} m few =
+        let ends = m.ends in
         let rest = levels_from u words (k - (i + 1)) (suc i) (old_sets u result') in
         let less : 10 - i - 1 ≡ 10 - (i + 1) = omega arith in
         let here : i < length rounds = omega (arith, run.long) in
-        let at-number : number ≡ reached (i + 1) = same ∙ sym (ap reached (add-one i)) in
+        let at-number : order ≡ reached (i + 1) = same ∙ sym (ap reached (add-one i)) in
         record {
           within = omega arith;
           long = length-set rounds i n ∙ run.long;
@@ -350,15 +343,19 @@ module _ {u : Setup} {result scratch result₁ : List ℕ} (at : ℕ) (ready : R
   pub begin-ready : Ready u 1 result₁ scratch
   begin-ready = moved_ready begin-moved ready ready.least ready.most
 
-  pub begin-run : (k : ℕ) (words : List ℕ) {r : LevelRounds} {result' scratch' : List ℕ}
+  pub begin-run : (k : ℕ) (words : List ℕ) {r : Result (List ℕ) Refusal} {result' scratch' : List ℕ}
       → LevelsRun u at k (levels_from u words k 0 (old_sets u result₁)) r result₁ scratch result' scratch'
       → LevelsRun u at k (first (room u) (grammar_in u words) k) r result scratch result' scratch'
   unfolding first
-  begin-run k words run =
+  begin-run k words {r} {result'} {scratch'} run =
       let from : first (room u) (grammar_in u words) k ≡ levels_from u words k 0 (old_sets u result₁) = ap (levels_from u words k 0) (sym begun.front) in
       record {
-        done = λ e. let d = run.done e in record { made = from ∙ d.made; unused = d.unused; moved = moved_then begin-moved d.moved };
-        refusal = λ n. (from ∙ (run.refusal n).0, (run.refusal n).1);
+        ends = by from r run.ends;
         result-beyond = run.result-beyond ∙ begun.beyond;
         scratch-beyond = run.scratch-beyond;
       }
+    where
+      by : first (room u) (grammar_in u words) k ≡ levels_from u words k 0 (old_sets u result₁) → (r : Result (List ℕ) Refusal)
+          → LevelsEnd u at k (levels_from u words k 0 (old_sets u result₁)) r result₁ scratch result' scratch' → LevelsEnd u at k (first (room u) (grammar_in u words) k) r result scratch result' scratch'
+      by from (Ok rounds) d = record { made = from ∙ d.made; unused = d.unused; moved = moved_then begin-moved d.moved }
+      by from (Err e) h = from ∙ h

@@ -19,6 +19,13 @@ use Rattle.first.proofs.Codes.{range_same}
 pub span-within : {words : List ℕ} {place : ℕ} {span : Span} → SpanAt words place span → (span.from ≤ span.to) × (span.to ≤ length words)
 span-within e = (omega (arith, e.from, e.to, e.inside), omega (arith, e.from, e.to, e.inside))
 
+-- each of some productions lies within the sizes
+abbrev pub Within : Setup → List Production → Type 0
+Within u ps = (q : Production) → Memᴰ q ps → (q.left < u.n) × Symbols u q.right
+
+pub rules-within : {u : Setup} {words : List ℕ} → Rules u words → Within u (productions_of u.p words)
+rules-within {u} {words} rules = λ q m. ((rules.ranged.rules m).0, range_same (grammar_in u words) (sizes u) q.right refl refl (rules.ranged.rules m).1)
+
 -- i productions are passed, and the next begins at `place`; those still to come are in range
 pub record Passing (u : Setup) (words : List ℕ) (i place : ℕ) : Type 0 where
   pub cursor : Cursor u.n u.p words i place

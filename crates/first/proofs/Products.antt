@@ -1,6 +1,5 @@
 -- The sets of the productions, one after the other. The invariant is `Producing`. Assumes nothing.
 use mathlib.Core.Path.{◌≡◌, refl, sym, ap, ◌∙◌, subst}
-use mathlib.Core.Bool.{Bool, true, false, true≢false, false≢true}
 use mathlib.Core.List.{List, [], ◌∷◌, ◌++◌, append_assoc, append-nil, map}
 use Prim.Native.Nat.{ℕ, suc, ◌+◌, ◌-◌, ◌≤◌, ◌<◌}
 use native.Mathlib.Nat.{add-zero}
@@ -11,6 +10,8 @@ use Rattle.k_tuple.specs.Strings.{Str}
 use Rattle.k_tuples.specs.States.{State, set_of}
 use Rattle.k_tuples.specs.Work.{Answer, refused, got, ◌>>=◌}
 use Rattle.k_tuples.proofs.Blocks.{length-sets}
+use Rattle.std.specs.Prelude.{Ok, Err}
+use Rattle.refusals.specs.declared.Refusal.{Refusal}
 use Rattle.blocks.specs.Stores.{Turned}
 use Rattle.blocks.proofs.Stores.{as-turned, turned-store, turned-sets, turned-beyond, turned_then}
 use Rattle.blocks.proofs.Fronts.{front-start, front-then, front-free}
@@ -86,14 +87,13 @@ module _ {u : Setup} {k : ℕ} {words result₀ scratch₀ : List ℕ} {i place 
   producing-ready ready = still-ready ready (turned-store prod.held) prod.in-scratch.store
 
   -- no production more
-  pub producing-end : u.p ≤ i → Produced u k (sets_from u k (old_sets u result₀) u.p words) false result₀ scratch₀ result scratch
+  pub producing-end : u.p ≤ i → Produced u k (sets_from u k (old_sets u result₀) u.p words) (Ok tt) result₀ scratch₀ result scratch
   unfolding production_sets
   producing-end h =
       let none : u.p - i ≡ 0 = omega arith in
       let all : i ≡ u.p = omega (arith, prod.pass.cursor.below) in
       record {
-        over = λ n. absurd (false≢true n);
-        done = λ _. record {
+        ends = record {
           products = prod.products;
           made = prod.to-come ∙ rw none (ap got (append-nil prod.products));
           held = rw (← all) prod.held;
@@ -126,20 +126,22 @@ module _ {u : Setup} {k : ℕ} {words result₀ scratch₀ : List ℕ} {i place 
           ∙ ap (λ (ps : List Production). behind prod.products (production_sets (room u) k (old_sets u result₀) ps)) (span-first u.n u.p words i place prod.pass.cursor more span s)
           ∙ ap (λ (X : State). behind prod.products (right_side (room u) k X γ >>= λ a. rest >>= λ more. got (a ∷ more))) (sym old-kept)
 
-      module _ {full : Bool} {result' scratch' : List ℕ}
-          (m : Made u (u.n + i) k (right_side (room u) k (old_sets u result) (map symbol_of (take (span.to - span.from) (drop span.from words)))) full result scratch result' scratch') where
-        pub producing-over : full ≡ true → Produced u k (sets_from u k (old_sets u result₀) u.p words) true result₀ scratch₀ result' scratch'
-        producing-over e =
+      -- the set of that production
+      abbrev product : Answer (List Str)
+      product = right_side (room u) k (old_sets u result) (map symbol_of (take (span.to - span.from) (drop span.from words)))
+
+      module _ {result' scratch' : List ℕ} where
+        pub producing-over : {e : Refusal} → Made u (u.n + i) k product (Err e) result scratch result' scratch' → Produced u k (sets_from u k (old_sets u result₀) u.p words) (Err e) result₀ scratch₀ result' scratch'
+        producing-over m =
             record {
-              over = λ _. next ∙ rw (m.over e);
-              done = λ n. absurd (true≢false n);
+              ends = (next ∙ rw m.ends.0, m.ends.1);
               result-beyond = m.result-beyond ∙ turned-beyond prod.held;
               scratch-beyond = m.scratch-beyond ∙ prod.in-scratch.beyond;
             }
 
-        pub producing-more : full ≡ false → Producing u k words result₀ scratch₀ (i + 1) span.to result' scratch'
-        producing-more e =
-            let d = m.done e in
+        pub producing-more : Made u (u.n + i) k product (Ok tt) result scratch result' scratch' → Producing u k words result₀ scratch₀ (i + 1) span.to result' scratch'
+        producing-more m =
+            let d = m.ends in
             let rest = sets_from u k (old_sets u result₀) (u.p - (i + 1)) (drop span.to words) in
             let new-kept : new_sets u scratch ≡ new_sets u scratch₀ = prod.in-scratch.front in
             record {

@@ -8,7 +8,7 @@ use native.Mathlib.Numerals.{add-one}
 use native.Mathlib.Omega.{arith}
 use borrow.Author.Tests.{le-leb, lt-ltb, ne_eqb}
 use lib.ListN.{length, get_or, take, length-take}
-use lib.Seq.{take-nil, take-suc, take_all}
+use lib.Seq.{take-nil, take-suc}
 use Rattle.k_tuple.specs.Strings.{eps, slots, good, ones, allowed, well_formed, ended}
 use Rattle.k_tuple.specs.Packed.{Pushable, WellFormed, packed, reads, pushed_in, cut_in}
 use Rattle.k_tuple.specs.declared.Terminals.{Terminals}
@@ -88,6 +88,3 @@ pub spelled : (k i : ℕ) (xs : List ℕ) → 1 ≤ k → 1 ≤ length xs → ta
 spelled k i [] some one e = absurd (not-suc-le-zero one)
 spelled zero i (x ∷ xs) some one e = absurd (not-suc-le-zero some)
 spelled (suc k) i (x ∷ xs) some one e = ap slots e
-
-pub whole_run : (k i : ℕ) (xs : List ℕ) → length xs ≤ i → i ≤ k → take i xs ≡ take k xs
-whole_run k i xs l h = take_all i xs l ∙ sym (take_all k xs (omega arith))

@@ -1,48 +1,46 @@
 -- One turn of the loops over what is due: the left sides are marked, and the new sets emptied. Assumes nothing.
 use mathlib.Core.Path.{◌≡◌, refl, sym, ap, ◌∙◌}
 use mathlib.Core.Bool.{Bool, true, false, true≢false}
-use mathlib.Core.List.{List, []}
-use Prim.Native.Nat.{ℕ, ◌+◌, ◌-◌, ◌≤◌, ◌<◌}
+use mathlib.Core.List.{List, [], ◌∷◌}
+use Prim.Native.Nat.{ℕ, ◌+◌, ◌≤◌, ◌<◌}
 use native.Mathlib.Omega.{arith}
 use borrow.Author.Count.{below_more}
-use lib.ListN.{length, get_or, set, drop}
+use lib.ListN.{length, get_or, set}
 use lib.Seq.{length-take-le, get_or-set_same, get_or-set_other}
 use Rattle.k_tuples.specs.States.{set_of}
 use Rattle.k_tuples.specs.Blocks.{IsStored}
 use Rattle.k_tuples.proofs.Blocks.{length-sets}
 use Rattle.blocks.specs.Stores.{Emptied}
 use Rattle.blocks.proofs.Fronts.{front-start, front-then, front-one}
-use Rattle.cfg.specs.declared.table.Span.{Span}
 use Rattle.cfg.specs.Reading.{pick}
-use Rattle.cfg.specs.Written.{productions_of}
-use Rattle.cfg.specs.Words.{SpanAt}
-use Rattle.cfg.specs.Marks.{Marked, no_marks}
+use Rattle.cfg.specs.Grammar.{Sym, Production}
+use Rattle.cfg.specs.Marks.{Marked}
 use Rattle.cfg.specs.Closure.{all_marked}
 use Rattle.first.specs.declared.Setup.{Setup}
 use Rattle.first.specs.Steps.{scratch_sets}
-use Rattle.first.specs.Rounds.{new_sets, InScratch, Rules}
-use Rattle.first.specs.Due.{due_from, due_of, Blanked}
-use Rattle.first.proofs.Passing.{Passing, pass-start, pass-next, right_at, pass-split}
+use Rattle.first.specs.Rounds.{new_sets, InScratch}
+use Rattle.first.specs.Due.{due_from, Blanked}
 
 -- ---- marking
 
--- i productions are passed; those to come complete the marks
-pub record Sweeping (u : Setup) (words : List ℕ) (same due : List Bool) (i place : ℕ) : Type 0 where
-  pub pass : Passing u words i place
-  pub rest : due_from same (productions_of (u.p - i) (drop place words)) due ≡ due_of same (productions_of u.p words)
-
-pub sweep-start : {u : Setup} {words : List ℕ} (same : List Bool) → Rules u words → Sweeping u words same no_marks 0 0
-sweep-start {u} same rules = let all : u.p - 0 ≡ u.p = omega arith in record { pass = pass-start rules; rest = rw all }
-
-module _ {u : Setup} {words : List ℕ} {same due : List Bool} {i place : ℕ} (w : Sweeping u words same due i place) where
-  pub sweep-end : u.p ≤ i → due ≡ due_of same (productions_of u.p words)
+-- the productions to come, `rest`, complete the marks
+module _ (same due goal : List Bool) (rest : List Production) (w : due_from same rest due ≡ goal) where
+  pub sweep-end : rest ≡ [] → due ≡ goal
   unfolding due_from
-  sweep-end h = let none : u.p - i ≡ 0 = omega arith in rw none at w.rest
+  sweep-end e = rw e at w
 
-  module _ (more : i < u.p) (span : Span) (s : SpanAt words place span) {test : Bool} (t : test ≡ all_marked true same (right_at w.pass more span s)) where
-    pub sweep-more : {due' : List Bool} → due' ≡ pick test due (set due span.left true) → Sweeping u words same due' (i + 1) span.to
+  module _ (left : ℕ) (right : List Sym) (behind : List Production) (e : rest ≡ record { left = left; right = right } ∷ behind) (test : Bool) (t : test ≡ all_marked true same right) where
+    swept : due_from same behind (pick test due (set due left true)) ≡ goal
     unfolding due_from
-    sweep-more e = record { pass = pass-next w.pass more span s; rest = rw (e, t) (rw (pass-split w.pass more span s) at w.rest) }
+    swept = rw t (rw e at w)
+
+    -- one with another set
+    pub sweep-mark : test ≡ false → (k : ℕ) → k ≡ left → due_from same behind (set due k true) ≡ goal
+    sweep-mark z k q = rw q (rw z at swept)
+
+    -- one whose sets are all the same
+    pub sweep-pass : test ≡ true → due_from same behind due ≡ goal
+    sweep-pass z = rw z at swept
 
 -- ---- emptying
 

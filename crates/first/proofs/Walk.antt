@@ -1,7 +1,7 @@
 -- A product that is made part by part. The invariant of the walk over a right side is `Walking`: the parts still to come, joined to the product
 -- in hand, give the right side's product. Assumes nothing.
 use mathlib.Core.Path.{◌≡◌, refl, sym, ap, ap₂, ◌∙◌, subst}
-use mathlib.Core.Bool.{Bool, true, false, true≢false, false≢true}
+use mathlib.Core.Bool.{true}
 use mathlib.Core.List.{List, [], ◌∷◌, ◌++◌, map}
 use Prim.Native.Nat.{ℕ, ◌+◌, ◌-◌, ◌*◌, ◌≤◌, ◌<◌}
 use native.Mathlib.Omega.{arith}
@@ -12,13 +12,17 @@ use lib.Seq.{get_or-set_same, get_or-take, set-set, set-get_or, take-set-le, dro
 use Rattle.k_tuple.specs.Strings.{Str, eps, ones}
 use Rattle.k_tuples.specs.Sets.{join_sets, all_complete}
 use Rattle.k_tuples.specs.States.{State, set_of}
-use Rattle.k_tuples.specs.Words.{grown, is_full}
+use Rattle.k_tuples.specs.Words.{Growth, grown, is_full}
 use Rattle.k_tuples.proofs.Words.{words-room}
 use Rattle.k_tuples.specs.Blocks.{Kept, IsStored}
 use Rattle.k_tuples.specs.Work.{Answer, refused, got, ◌>>=◌, within}
 use Rattle.k_tuples.specs.declared.set.Grown.{Grown}
+use Rattle.k_tuples.proofs.Inserting.{grown-full}
 use Rattle.k_tuples.proofs.Filling.{full-grown}
 use Rattle.k_tuples.proofs.Blocks.{in-sets, kept_at}
+use Rattle.std.specs.Prelude.{Result, Ok, Err}
+use Rattle.refusals.specs.declared.Refusal.{Refusal}
+use Rattle.refusals.specs.declared.Refusal.TheVariants.{SetTooLarge}
 use Rattle.blocks.specs.Stores.{Turned}
 use Rattle.blocks.proofs.Stores.{turned-store, turned-sets, turned-beyond, turned_then, as-turned, filled-turned, zeros-are-stored}
 use Rattle.cfg.specs.Written.{symbol_of}
@@ -26,11 +30,25 @@ use Rattle.first_theory.specs.First.{Part, parts}
 use Rattle.first_theory.specs.Compute.{part_set, join_parts, right_side}
 use Rattle.first.specs.declared.Setup.{Setup}
 use Rattle.first.specs.Codes.{part_length, part_of}
-use Rattle.first.specs.Steps.{result_sets, scratch_sets, old_sets, room, Ready, Free, part_join, InWork, Placed, Made}
+use Rattle.first.specs.Steps.{result_sets, scratch_sets, old_sets, room, Ready, Free, part_join, InWork, Placed, Done, OrTooLarge, Made}
 use Rattle.first.proofs.Codes.{part_at}
 use Rattle.first.proofs.Short.{parts-idle, first-idle}
 
 -- ---- room for a set
+
+-- what an operation tells that has put members into a set
+module _ (room old new : ℕ) where
+  told : {r : Growth} → r ≡ grown room old new → ltb room new ≡ is_full r
+  told answer = sym (full-grown room old new) ∙ ap is_full (sym answer)
+
+  pub told-large : {e : Refusal} → Err e ≡ grown room old new → (room < new) × (e ≡ SetTooLarge)
+  told-large {e} answer =
+      let more : room < new = ltb-true _ _ (told answer) in
+      let same : ◌≡◌ {A = Growth} (Err e) (Err SetTooLarge) = answer ∙ grown-full room old new more in
+      (more, cc)
+
+  pub told_small : {g : Grown} → Ok g ≡ grown room old new → new ≤ room
+  told_small answer = ltb-false _ _ (told answer)
 
 module _ (u : Setup) (new : List Str) where
   within-over : room u < length new → within (room u) new ≡ refused 11
@@ -42,15 +60,11 @@ module _ (u : Setup) (new : List Str) where
   within-fits h = rw (le-leb (length new) (room u) h)
 
   -- as an operation tells it that has put members into a set
-  module _ (old : ℕ) {r : Grown} (answer : r ≡ grown (room u) old (length new)) where
-    told : (t : Bool) → is_full r ≡ t → ltb (room u) (length new) ≡ t
-    told t e = sym (full-grown (room u) old (length new)) ∙ ap is_full (sym answer) ∙ e
+  pub told_over : (old : ℕ) {e : Refusal} → Err e ≡ grown (room u) old (length new) → (within (room u) new ≡ refused 11) × (e ≡ SetTooLarge)
+  told_over old answer = let large = told-large (room u) old (length new) answer in (within-over large.0, large.1)
 
-    pub told_over : is_full r ≡ true → within (room u) new ≡ refused 11
-    told_over e = within-over (ltb-true _ _ (told true e))
-
-    pub told-fits : is_full r ≡ false → within (room u) new ≡ got new
-    told-fits e = within-fits (ltb-false _ _ (told false e))
+  pub told-fits : (old : ℕ) {g : Grown} → Ok g ≡ grown (room u) old (length new) → within (room u) new ≡ got new
+  told-fits old answer = within-fits (told_small (room u) old (length new) answer)
 
 -- a set of the buffers has room
 pub kept-within : (u : Setup) {k : ℕ} {a : List Str} → Kept k u.w u.b a → within (room u) a ≡ got a
@@ -129,37 +143,35 @@ placed_first {u} product {scratch = scratch} ready h = record {
 
 -- ---- one part: a join in the scratch, and then the result takes it over
 
-module _ {u : Setup} {k : ℕ} {new : List Str} {r : Grown} {result scratch scratch' : List ℕ} (ready : Ready u k result scratch) (j : InWork u k u.n 0 new r scratch scratch') where
-  pub join-over : (at : ℕ) → is_full r ≡ true → Made u at k (within (room u) new) true result scratch result scratch'
-  join-over at e =
+module _ {u : Setup} {k : ℕ} {new : List Str} {result scratch scratch' : List ℕ} where
+  pub join-over : (at : ℕ) {e : Refusal} → InWork u k u.n 0 new (Err e) scratch scratch' → Made u at k (within (room u) new) (Err e) result scratch result scratch'
+  join-over at j =
       record {
-        over = λ _. told_over u new 0 j.answer e;
-        done = λ n. absurd (true≢false n);
+        ends = told_over u new 0 j.answer;
         result-beyond = refl;
         scratch-beyond = j.step.beyond;
       }
 
-  module _ (e : is_full r ≡ false) where
+  module _ (ready : Ready u k result scratch) {g : Grown} (j : InWork u k u.n 0 new (Ok g) scratch scratch') where
     pub join-ready : Ready u k result scratch'
-    join-ready = still-ready ready ready.result-store (turned-store (filled-turned j e))
+    join-ready = still-ready ready ready.result-store (turned-store (filled-turned j refl))
 
     there : set_of (scratch_sets u scratch') u.n ≡ new
     there =
-        ap (λ (F : State). set_of F u.n) (turned-sets (filled-turned j e))
+        ap (λ (F : State). set_of F u.n) (turned-sets (filled-turned j refl))
         ∙ get_or-set_same (scratch_sets u scratch) u.n new [] (in-sets ready.scratch-store ready.work)
 
     pub join-taken : (at : ℕ) {result' : List ℕ} → Turned k u.w u.b u.rsets (set (result_sets u result) at (set_of (scratch_sets u scratch') u.n)) result result'
-        → Made u at k (within (room u) new) false result scratch result' scratch'
+        → Made u at k (within (room u) new) (Ok tt) result scratch result' scratch'
     join-taken at {result'} t =
         record {
-          over = λ n. absurd (false≢true n);
-          done = λ _. record {
+          ends = record {
             product = new;
-            made = told-fits u new 0 j.answer e;
+            made = told-fits u new 0 j.answer;
             placed = record {
               held = subst (λ (a : List Str). Turned k u.w u.b u.rsets (set (result_sets u result) at a) result result') there t;
               work = new;
-              worked = filled-turned j e;
+              worked = filled-turned j refl;
             };
           };
           result-beyond = turned-beyond t;
@@ -190,12 +202,11 @@ walk_start {u} at right {result₀} ready =
 
 module _ {u : Setup} {at k : ℕ} {right result₀ scratch₀ : List ℕ} {j : ℕ} {result scratch : List ℕ} (walk : Walking u at k right result₀ scratch₀ j result scratch) where
   -- no part more
-  pub walk_end : length right ≤ j → Made u at k (join_all u k result₀ (set_of (result_sets u result₀) at) right) false result₀ scratch₀ result scratch
+  pub walk_end : length right ≤ j → Made u at k (join_all u k result₀ (set_of (result_sets u result₀) at) right) (Ok tt) result₀ scratch₀ result scratch
   unfolding join_parts
   walk_end h =
       record {
-        over = λ n. absurd (false≢true n);
-        done = λ _. record {
+        ends = record {
           product = walk.product;
           made = sym walk.to-come ∙ rw (drop_of_length-le right {i = j} h);
           placed = walk.placed;
@@ -206,12 +217,11 @@ module _ {u : Setup} {at k : ℕ} {right result₀ scratch₀ : List ℕ} {j : �
 
   -- everything in hand is complete
   pub walk-stop : Ready u k result₀ scratch₀ → Free u at → all_complete k (set_of (result_sets u result) at) ≡ true
-      → Made u at k (join_all u k result₀ (set_of (result_sets u result₀) at) right) false result₀ scratch₀ result scratch
+      → Made u at k (join_all u k result₀ (set_of (result_sets u result₀) at) right) (Ok tt) result₀ scratch₀ result scratch
   walk-stop ready free all =
       let kept = placed-kept walk.placed ready free in
       record {
-        over = λ n. absurd (false≢true n);
-        done = λ _. record {
+        ends = record {
           product = walk.product;
           made =
               sym walk.to-come
@@ -235,43 +245,52 @@ module _ {u : Setup} {at k : ℕ} {right result₀ scratch₀ : List ℕ} {j : �
         ∙ ap₂ (λ (a : List Str) (X : State). within (room u) (join_sets k a (part_set k X q)) >>= λ b. join_all u k result₀ b (drop end right))
         (sym (placed-product walk.placed ready free)) (sym (placed-old walk.placed free))
 
-    module _ {full : Bool} {result' scratch' : List ℕ}
-        (m : Made u at k (within (room u) (part_join u at k result (part_of (take (end - j) (drop j right))))) full result scratch result' scratch') where
-      pub walk-over : full ≡ true → Made u at k (join_all u k result₀ (set_of (result_sets u result₀) at) right) true result₀ scratch₀ result' scratch'
-      walk-over e =
+    -- the part joined
+    abbrev joined : Answer (List Str)
+    joined = within (room u) (part_join u at k result (part_of (take (end - j) (drop j right))))
+
+    module _ {result' scratch' : List ℕ} where
+      pub walk-over : {e : Refusal} → Made u at k joined (Err e) result scratch result' scratch'
+          → Made u at k (join_all u k result₀ (set_of (result_sets u result₀) at) right) (Err e) result₀ scratch₀ result' scratch'
+      walk-over m =
           record {
-            over = λ _. next ∙ rw (m.over e);
-            done = λ n. absurd (true≢false n);
+            ends = (next ∙ rw m.ends.0, m.ends.1);
             result-beyond = m.result-beyond ∙ turned-beyond walk.placed.held;
             scratch-beyond = m.scratch-beyond ∙ turned-beyond walk.placed.worked;
           }
 
-      pub walk_more : full ≡ false → end ≤ length right → Walking u at k right result₀ scratch₀ end result' scratch'
-      walk_more e l =
-          let d = m.done e in
+      pub walk_more : Made u at k joined (Ok tt) result scratch result' scratch' → end ≤ length right → Walking u at k right result₀ scratch₀ end result' scratch'
+      walk_more m l =
+          let d = m.ends in
           record { below = l; product = d.product; placed = placed-then walk.placed d.placed; to-come = sym (next ∙ rw d.made) }
 
 -- ---- from a first product
 
 -- what is made from a first product is made from the buffers at entry
 pub start-made : {u : Setup} {at k : ℕ} {first : List Str} {result scratch result' scratch' : List ℕ} → Ready u k result scratch → Free u at
-    → Placed u at k first result scratch result' scratch' → (f : State → List Str → Answer (List Str)) {full : Bool} {result'' scratch'' : List ℕ}
-    → Made u at k (f (old_sets u result') (set_of (result_sets u result') at)) full result' scratch' result'' scratch'' → Made u at k (f (old_sets u result) first) full result scratch result'' scratch''
-start-made ready free started f m =
-    let same = ap₂ f (placed-old started free) (placed-product started ready free) in
+    → Placed u at k first result scratch result' scratch' → (f : State → List Str → Answer (List Str)) {r : Result (Unit {0}) Refusal} {result'' scratch'' : List ℕ}
+    → Made u at k (f (old_sets u result') (set_of (result_sets u result') at)) r result' scratch' result'' scratch'' → Made u at k (f (old_sets u result) first) r result scratch result'' scratch''
+start-made {u} {at} {k} {first} {result} {scratch} {result'} {scratch'} ready free started f {r} {result''} {scratch''} m =
     record {
-      over = λ e. sym same ∙ m.over e;
-      done = λ e. let d = m.done e in record { product = d.product; made = sym same ∙ d.made; placed = placed-then started d.placed };
+      ends = by r m.ends;
       result-beyond = m.result-beyond ∙ turned-beyond started.held;
       scratch-beyond = m.scratch-beyond ∙ turned-beyond started.worked;
     }
+  where
+    same : f (old_sets u result') (set_of (result_sets u result') at) ≡ f (old_sets u result) first
+    same = ap₂ f (placed-old started free) (placed-product started ready free)
+
+    by : (r : Result (Unit {0}) Refusal)
+        → OrTooLarge r (f (old_sets u result') (set_of (result_sets u result') at) ≡ refused 11) (λ _. Done u at k (f (old_sets u result') (set_of (result_sets u result') at)) result' scratch' result'' scratch'')
+        → OrTooLarge r (f (old_sets u result) first ≡ refused 11) (λ _. Done u at k (f (old_sets u result) first) result scratch result'' scratch'')
+    by (Ok v) d = record { product = d.product; made = sym same ∙ d.made; placed = placed-then started d.placed }
+    by (Err e) h = (sym same ∙ h.0, h.1)
 
 -- a product that needs no join is made
 pub placed-made : {u : Setup} {at k : ℕ} {product : List Str} {answer : Answer (List Str)} {result scratch result' scratch' : List ℕ} → answer ≡ got product
-    → Placed u at k product result scratch result' scratch' → Made u at k answer false result scratch result' scratch'
+    → Placed u at k product result scratch result' scratch' → Made u at k answer (Ok tt) result scratch result' scratch'
 placed-made {product = product} e d = record {
-  over = λ n. absurd (false≢true n);
-  done = λ _. record { product = product; made = e; placed = d };
+  ends = record { product = product; made = e; placed = d };
   result-beyond = turned-beyond d.held;
   scratch-beyond = turned-beyond d.worked;
 }
@@ -304,18 +323,18 @@ no-parts c k X [] none = refl
 no-parts c k X (r ∷ right) none = absurd (omega arith)
 
 -- a right side whose first part has been placed, and the others joined to it
-pub parts-made : {u : Setup} {at k : ℕ} (right : List ℕ) {end : ℕ} (rest : List ℕ) {full : Bool} {result scratch result' scratch' result'' scratch'' : List ℕ}
+pub parts-made : {u : Setup} {at k : ℕ} (right : List ℕ) {end : ℕ} (rest : List ℕ) {r : Result (Unit {0}) Refusal} {result scratch result' scratch' result'' scratch'' : List ℕ}
     → Ready u k result scratch → Free u at → 0 < length right → end ≡ part_length right → rest ≡ drop end right
     → Placed u at k (part_set k (old_sets u result) (part_of (take end right))) result scratch result' scratch'
-    → Made u at k (join_all u k result' (set_of (result_sets u result') at) rest) full result' scratch' result'' scratch''
-    → Made u at k (right_side (room u) k (old_sets u result) (map symbol_of right)) full result scratch result'' scratch''
+    → Made u at k (join_all u k result' (set_of (result_sets u result') at) rest) r result' scratch' result'' scratch''
+    → Made u at k (right_side (room u) k (old_sets u result) (map symbol_of right)) r result scratch result'' scratch''
 unfolding right_side
-parts-made {u} {at} {k} right {end} rest {full} {result} {scratch} {result'' = result''} {scratch'' = scratch''} ready free some ends behind first m =
+parts-made {u} {at} {k} right {end} rest {r} {result} {scratch} {result'' = result''} {scratch'' = scratch''} ready free some ends behind first m =
     let X = old_sets u result in
     let q = part_of (take end right) in
     let kept = placed-kept first ready free in
     let split : parts (map symbol_of right) ≡ q ∷ parts (map symbol_of rest) = part_at right 0 some ∙ rw (behind, ends) in
     let same = ap (join_parts (room u) k X (eps ∷ [])) split
     ∙ first-idle (room u) k X q (parts (map symbol_of rest)) kept.sorted (λ y i. ((kept.fit y i).some, (kept.fit y i).short)) (kept-within u kept) in
-    subst (λ (a : Answer (List Str)). Made u at k a full result scratch result'' scratch'') (sym same)
+    subst (λ (a : Answer (List Str)). Made u at k a r result scratch result'' scratch'') (sym same)
     (start-made ready free first (λ X b. join_parts (room u) k X b (parts (map symbol_of rest))) m)

@@ -1,8 +1,9 @@
 -- What a round of FIRST does to the two lent buffers. Assumes nothing.
-use Rattle.std.specs.Prelude.{◌≡◌, Bool, true, false, List, ℕ, ◌≤◌, set, take}
+use Rattle.std.specs.Prelude.{◌≡◌, Bool, true, false, List, ℕ, ◌≤◌, set, take, Result}
 use Rattle.k_tuples.specs.Sets.{union}
 use Rattle.k_tuples.specs.States.{State, set_of, same_sets}
 use Rattle.k_tuples.specs.Work.{Answer, refused, got, ◌>>=◌, within}
+use Rattle.refusals.specs.declared.Refusal.{Refusal}
 use Rattle.blocks.specs.Stores.{Front}
 use Rattle.cfg.specs.Grammar.{Sym, Grammar, Ranged}
 use Rattle.cfg.specs.Written.{productions_of}
@@ -10,8 +11,8 @@ use Rattle.cfg.specs.Words.{Sound}
 use Rattle.first_theory.specs.Compute.{right_side}
 use Rattle.first.specs.declared.Setup.{Setup}
 use Rattle.first.specs.declared.round.Round.{Round}
-use Rattle.first.specs.declared.round.Round.TheVariants.{Same, Changed, Full}
-use Rattle.first.specs.Steps.{scratch_sets, old_sets, past_result, past_scratch, room}
+use Rattle.first.specs.declared.round.Round.TheVariants.{Same, Changed}
+use Rattle.first.specs.Steps.{scratch_sets, old_sets, past_result, past_scratch, room, OrTooLarge}
 
 -- the new sets, which come first in the scratch
 abbrev pub new_sets : Setup → List ℕ → State
@@ -49,17 +50,11 @@ pub record Extension (u : Setup) (at k : ℕ) (answer : Answer State) (result sc
   pub in-result : InResult u at k (old_sets u result) result result'
   pub in-scratch : InScratch u k new scratch scratch'
 
--- the scratch has got new sets as the answer says, or a set was full
-pub record Extended (u : Setup) (at k : ℕ) (answer : Answer State) (full : Bool) (result scratch result' scratch' : List ℕ) : Type 0 where
-  pub over : full ≡ true → answer ≡ refused 11
-  pub done : full ≡ false → Extension u at k answer result scratch result' scratch'
+-- the scratch has got new sets as the answer says, or a set was too large
+pub record Extended (u : Setup) (at k : ℕ) (answer : Answer State) (r : Result (Unit {0}) Refusal) (result scratch result' scratch' : List ℕ) : Type 0 where
+  pub ends : OrTooLarge r (answer ≡ refused 11) (λ _. Extension u at k answer result scratch result' scratch')
   pub result-beyond : past_result u result' ≡ past_result u result
   pub scratch-beyond : past_scratch u scratch' ≡ past_scratch u scratch
-
-abbrev pub round_full : Round → Bool
-round_full Same = false
-round_full Changed = false
-round_full Full = true
 
 -- as the sets are the same or not
 abbrev pub round_told : Bool → Round
@@ -74,8 +69,8 @@ pub record RoundDone (u : Setup) (at k : ℕ) (answer : Answer State) (r : Round
   pub in-result : InResult u at k new result result'
   pub in-scratch : InScratch u k new scratch scratch'
 
-pub record Rounded (u : Setup) (at k : ℕ) (answer : Answer State) (r : Round) (result scratch result' scratch' : List ℕ) : Type 0 where
-  pub over : round_full r ≡ true → answer ≡ refused 11
-  pub done : round_full r ≡ false → RoundDone u at k answer r result scratch result' scratch'
+-- or a set was too large
+pub record Rounded (u : Setup) (at k : ℕ) (answer : Answer State) (r : Result Round Refusal) (result scratch result' scratch' : List ℕ) : Type 0 where
+  pub ends : OrTooLarge r (answer ≡ refused 11) (λ told. RoundDone u at k answer told result scratch result' scratch')
   pub result-beyond : past_result u result' ≡ past_result u result
   pub scratch-beyond : past_scratch u scratch' ≡ past_scratch u scratch

@@ -1,12 +1,13 @@
 -- What the steps of FIRST do to the two lent buffers. Assumes nothing.
-use Rattle.std.specs.Prelude.{◌≡◌, Bool, true, false, List, [], map, ℕ, ◌+◌, ◌*◌, ◌≤◌, ◌<◌, set, take, drop}
+use Rattle.std.specs.Prelude.{◌≡◌, List, [], map, Result, Ok, Err, ℕ, ◌+◌, ◌*◌, ◌≤◌, ◌<◌, set, take, drop}
 use Rattle.k_tuple.specs.Strings.{Str, ones}
 use Rattle.k_tuples.specs.Sets.{join_sets}
 use Rattle.k_tuples.specs.States.{State, set_of}
-use Rattle.k_tuples.specs.Words.{room_of}
+use Rattle.k_tuples.specs.Words.{room_of, Growth}
 use Rattle.k_tuples.specs.Blocks.{sets_in, IsStored}
 use Rattle.k_tuples.specs.Work.{Answer, refused, got}
-use Rattle.k_tuples.specs.declared.set.Grown.{Grown}
+use Rattle.refusals.specs.declared.Refusal.{Refusal}
+use Rattle.refusals.specs.declared.Refusal.TheVariants.{SetTooLarge}
 use Rattle.blocks.specs.Stores.{Turned, Filled}
 use Rattle.cfg.specs.Grammar.{Sym, terminal, Grammar, AllInRange}
 use Rattle.first_theory.specs.First.{Part, run, single}
@@ -79,8 +80,8 @@ PartIn u (single A) = A < u.n
 abbrev pub part_join : Setup → ℕ → ℕ → List ℕ → Part → List Str
 part_join u at k result q = join_sets k (set_of (result_sets u result) at) (part_set k (old_sets u result) q)
 
--- set out of the scratch, of `old` members, has become `new`, or was full
-abbrev pub InWork : Setup → (k out old : ℕ) → List Str → Grown → (scratch scratch' : List ℕ) → Type 0
+-- set out of the scratch, of `old` members, has become `new`, or was too large
+abbrev pub InWork : Setup → (k out old : ℕ) → List Str → Growth → (scratch scratch' : List ℕ) → Type 0
 InWork u k out old new r scratch scratch' = Filled k u.w u.b u.ssets out old new r scratch scratch'
 
 -- set at of the result has become the product, set n of the scratch anything; the other sets are as they were
@@ -95,9 +96,13 @@ pub record Done (u : Setup) (at k : ℕ) (answer : Answer (List Str)) (result sc
   pub made : answer ≡ got product
   pub placed : Placed u at k product result scratch result' scratch'
 
--- a product has been made as the answer says, or a set was full
-pub record Made (u : Setup) (at k : ℕ) (answer : Answer (List Str)) (full : Bool) (result scratch result' scratch' : List ℕ) : Type 0 where
-  pub over : full ≡ true → answer ≡ refused 11
-  pub done : full ≡ false → Done u at k answer result scratch result' scratch'
+-- a step has come to a value, of which Came holds; or a set was too large, its only refusal, and Over holds
+abbrev pub OrTooLarge : {T : Type 0} → Result T Refusal → (Over : Type 0) → (Came : T → Type 0) → Type 0
+OrTooLarge (Ok v) Over Came = Came v
+OrTooLarge (Err e) Over Came = Over × (e ≡ SetTooLarge)
+
+-- a product has been made as the answer says, or a set was too large
+pub record Made (u : Setup) (at k : ℕ) (answer : Answer (List Str)) (r : Result (Unit {0}) Refusal) (result scratch result' scratch' : List ℕ) : Type 0 where
+  pub ends : OrTooLarge r (answer ≡ refused 11) (λ _. Done u at k answer result scratch result' scratch')
   pub result-beyond : past_result u result' ≡ past_result u result
   pub scratch-beyond : past_scratch u scratch' ≡ past_scratch u scratch

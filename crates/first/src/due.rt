@@ -8,27 +8,22 @@ ghost use Rattle.first.specs.Due.{due_of, Blanked};
 
 use crate::Setup;
 use cfg::accept::all_marked;
-use cfg::table::span_at;
-use cfg::wide;
+use cfg::grammar::Productions;
 
 // The left sides of the productions in which some nonterminal is not marked as the same.
 pub fn due_after(words: &[u16], u: Setup, same: &[bool; 128]) -> [bool; 128]
     requires { Rules u words.now }
     ensures { result ≡ due_of same.now (productions_of u.p words.now) }
 {
+    let ps = Productions {
+        words,
+        p: u.p as u16,
+    };
     let mut due = [false; 128];
-    let mut place = 0;
-    let mut i = 0;
-    while i < u.p {
-        let span = span_at(words, place);
-        let from = span.from;
-        let to = span.to;
-        let left = wide(span.left);
-        if !all_marked(&words[from..to], true, same) {
-            due[left] = true;
+    for q in ps {
+        if !all_marked(q.right, true, same) {
+            due[usize::from(q.left)] = true;
         }
-        place = to;
-        i += 1;
     }
     due
 }
@@ -38,12 +33,9 @@ pub fn clear_due(scratch: &mut [u64], u: Setup, k: u64, due: &[bool; 128])
     requires { IsStored k u.w u.b u.ssets scratch.old × ((u.n < u.ssets) × (u.n ≤ 128)) }
     ensures { Blanked u k due.now scratch.old scratch.new }
 {
-    let n = u.n;
-    let mut i = 0;
-    while i < n {
+    for i in 0..u.n {
         if due[i] {
             blocks::clear_block(scratch, u.b, u.ssets, i);
         }
-        i += 1;
     }
 }

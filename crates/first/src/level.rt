@@ -8,10 +8,11 @@ ghost use Rattle.first.specs.Steps.{Ready, ReadyBelow, Free, result_sets, old_se
 ghost use Rattle.first.specs.Rounds.{Rules, grammar_in};
 ghost use Rattle.first.specs.Levels.{Levelled, LevelsRun};
 
+use crate::Setup;
 use crate::due::due_after;
 use crate::round::{Round, first_round};
-use crate::{Ending, Setup};
 use k_tuple::well::eps;
+use refusals::Refusal;
 
 // Rounds, up to the first whose sets equal those before it, which counts; at most n + 1.
 pub fn first_level(
@@ -21,32 +22,19 @@ pub fn first_level(
     at: usize,
     k: u64,
     words: &[u16],
-) -> Ending
+) -> Result<u64, Refusal>
     requires { (Ready u k res.old scratch.old × Free u at) × Rules u words.now }
     ensures { Levelled u at k (level (room u) (grammar_in u words.now) k (old_sets u res.old)) result res.old scratch.old res.new scratch.new }
 {
-    let mut left = u.n + 1;
-    let mut done: u64 = 0;
     let mut due = [true; 128];
     let mut same = [false; 128];
-    while 0 < left {
-        let r = first_round(res, scratch, u, at, k, words, &due, &mut same);
-        match r {
-            Round::Full => {
-                return Ending::Refused(11);
-            }
-            Round::Same => {
-                let rounds = done + 1;
-                return Ending::Settled(rounds);
-            }
-            Round::Changed => {
-                due = due_after(words, u, &same);
-            }
+    for done in 0..u.n as u64 + 1 {
+        match first_round(res, scratch, u, at, k, words, &due, &mut same)? {
+            Round::Same => return Ok(done + 1),
+            Round::Changed => due = due_after(words, u, &same),
         }
-        left -= 1;
-        done += 1;
     }
-    Ending::Refused(12)
+    Err(Refusal::NotSettled)
 }
 
 // The rounds of level k, from the sets of a lower level: what is unfinished at k is counted first.
@@ -57,7 +45,7 @@ fn next_level(
     at: usize,
     k: u64,
     words: &[u16],
-) -> Ending
+) -> Result<u64, Refusal>
     requires { (ReadyBelow u k res.old scratch.old × Free u at) × Rules u words.now }
     ensures { Levelled u at k (level (room u) (grammar_in u words.now) k (old_sets u res.old)) result res.old scratch.old res.new scratch.new }
 {
@@ -74,19 +62,9 @@ fn start_sets(res: &mut [u64], u: Setup)
     requires { (IsStored 1 u.w u.b u.rsets res.old × (3 ≤ u.b)) × (((1 ≤ u.w) × (u.w ≤ 12)) × (u.n ≤ u.rsets)) }
     ensures { Turned 1 u.w u.b u.rsets (replicate u.n (eps_str ∷ []) ++ drop u.n (result_sets u res.old)) res.old res.new }
 {
-    let n = u.n;
-    let mut i = 0;
-    while i < n {
+    for i in 0..u.n {
         blocks::put_single(res, eps(u.w), u.b, u.rsets, i, 1);
-        i += 1;
     }
-}
-
-// The rounds of each level, and 0 for each unused one; or a refusal, which is not 0, and no rounds.
-#[derive(Clone, Copy)]
-pub struct LevelRounds {
-    pub refusal: u64,
-    pub rounds: [u64; 10],
 }
 
 // The number of the level behind i others.
@@ -97,7 +75,7 @@ fn level_after(i: usize) -> u64
     i as u64 + 1
 }
 
-// Levels 1 to k, from the sets as they stand.
+// Levels 1 to k, from the sets as they stand. Tells the rounds of each level, and 0 for each unused one.
 fn run_levels(
     res: &mut [u64],
     scratch: &mut [u64],
@@ -105,35 +83,18 @@ fn run_levels(
     at: usize,
     k: usize,
     words: &[u16],
-) -> LevelRounds
+) -> Result<[u64; 10], Refusal>
     requires { (Ready u 1 res.old scratch.old × Free u at) × (((1 ≤ k) × (k ≤ 10)) × Rules u words.now) }
     ensures { LevelsRun u at k (levels (room u) (grammar_in u words.now) k 0 (old_sets u res.old)) result res.old scratch.old res.new scratch.new }
 {
     let mut rounds = [0; 10];
-    let mut i = 0;
-    while i < k {
-        let l = next_level(res, scratch, u, at, level_after(i), words);
-        match l {
-            Ending::Refused(e) => {
-                let none = [0; 10];
-                return LevelRounds {
-                    refusal: e,
-                    rounds: none,
-                };
-            }
-            Ending::Settled(r) => {
-                rounds[i] = r;
-            }
-        }
-        i += 1;
+    for i in 0..k {
+        rounds[i] = next_level(res, scratch, u, at, level_after(i), words)?;
     }
-    LevelRounds {
-        refusal: 0,
-        rounds: rounds,
-    }
+    Ok(rounds)
 }
 
-// FIRST of the nonterminals. Set at of the result is for the product in hand.
+// FIRST of the nonterminals: the rounds of each level, and 0 for each unused one. Set at of the result is for the product in hand.
 pub fn first_levels(
     res: &mut [u64],
     scratch: &mut [u64],
@@ -141,7 +102,7 @@ pub fn first_levels(
     at: usize,
     k: usize,
     words: &[u16],
-) -> LevelRounds
+) -> Result<[u64; 10], Refusal>
     requires { (Ready u 1 res.old scratch.old × Free u at) × (((1 ≤ k) × (k ≤ 10)) × Rules u words.now) }
     ensures { LevelsRun u at k (first (room u) (grammar_in u words.now) k) result res.old scratch.old res.new scratch.new }
 {

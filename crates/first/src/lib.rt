@@ -20,10 +20,3 @@ pub struct Setup {
     pub ssets: usize,
     pub w: u64,
 }
-
-// How rounds end: settled after so many, or with a refusal.
-#[derive(Clone, Copy)]
-pub enum Ending {
-    Settled(u64),
-    Refused(u64),
-}

@@ -9,31 +9,24 @@ ghost use Rattle.first.specs.Levels.{Produced};
 use crate::Setup;
 use crate::right::first_of_right_side;
 use cfg::table::span_at;
+use refusals::Refusal;
 
-// FIRST of the productions, from set n of the result on. Says whether a set was too large.
+// FIRST of the productions, from set n of the result on. Refuses a set that is too large.
 pub fn first_productions(
     res: &mut [u64],
     scratch: &mut [u64],
     u: Setup,
     k: u64,
     words: &[u16],
-) -> bool
+) -> Result<(), Refusal>
     requires { (Ready u k res.old scratch.old × (u.n + u.p ≤ u.rsets)) × Rules u words.now }
     ensures { Produced u k (production_sets (room u) k (old_sets u res.old) (productions_of u.p words.now)) result res.old scratch.old res.new scratch.new }
 {
-    let n = u.n;
-    let p = u.p;
     let mut place = 0;
-    let mut i = 0;
-    while i < p {
+    for i in 0..u.p {
         let span = span_at(words, place);
-        let from = span.from;
-        let to = span.to;
-        if first_of_right_side(res, scratch, u, n + i, k, &words[from..to]) {
-            return true;
-        }
-        place = to;
-        i += 1;
+        first_of_right_side(res, scratch, u, u.n + i, k, &words[span.from..span.to])?;
+        place = span.to;
     }
-    false
+    Ok(())
 }

@@ -11,21 +11,23 @@ ghost use Rattle.first.specs.Codes.{half, part_length, part_of, AllSlots};
 ghost use Rattle.first.specs.Steps.{Ready, Free, Symbols, PartIn, InWork, Placed, Made, part_join, result_sets, old_sets, room};
 
 use crate::Setup;
+use blocks::{block, copy_block, is_complete, join_into, put_single, single};
 use k_tuple::Terminals;
 use k_tuple::well::{cut, eps, push};
-use k_tuples::set::{Grown, index, is_full};
+use k_tuples::set::{Grown, index};
+use refusals::Refusal;
 
 // The number of a symbol, as an index and as a terminal.
 fn index_of(code: u16) -> usize
     ensures { result ≡ code / 2 }
 {
-    (code / 2) as usize
+    usize::from(code / 2)
 }
 
 fn terminal_of(code: u16) -> u64
     ensures { result ≡ code / 2 }
 {
-    (code / 2) as u64
+    u64::from(code / 2)
 }
 
 // The first k terminals of a run, as one string of width w.
@@ -33,15 +35,9 @@ fn run_string(run: &[u16], k: u64, w: u64) -> Terminals
     requires { ((1 ≤ k) × (k ≤ 10)) × (((1 ≤ w) × (w ≤ 12)) × ((1 ≤ length run.now) × AllSlots w (map half run.now))) }
     ensures { result ≡ packed w (str (take k (map half run.now))) }
 {
-    let most = index(k);
     let mut s = cut(eps(w), 0);
-    let mut i = 0;
-    while i < run.len() {
-        if most <= i {
-            return s;
-        }
+    for i in 0..index(k).min(run.len()) {
         s = push(s, terminal_of(run[i]));
-        i += 1;
     }
     s
 }
@@ -51,17 +47,15 @@ fn part_end(right: &[u16], j: usize) -> usize
     requires { j < length right.now }
     ensures { (result ≡ j + part_length (drop j right.now)) × ((j < result) × (result ≤ length right.now)) }
 {
-    let mut end = j + 1;
     if right[j] % 2 == 0 {
-        return end;
+        return j + 1;
     }
-    while end < right.len() {
+    for end in j + 1..right.len() {
         if right[end] % 2 == 0 {
             return end;
         }
-        end += 1;
     }
-    end
+    right.len()
 }
 
 // Joins the product in hand with the set of nonterminal i.
@@ -72,32 +66,41 @@ fn join_nonterminal(
     at: usize,
     k: u64,
     i: usize,
-) -> Grown
+) -> Result<Grown, Refusal>
     requires { (Ready u k res.now scratch.old × Free u at) × PartIn u (single i) }
     ensures { InWork u k u.n 0 (part_join u at k res.now (single i)) result scratch.old scratch.new }
 {
-    let b = u.b;
-    let x = at * b;
-    let x_end = x + b;
-    let y = i * b;
-    let y_end = y + b;
-    blocks::join_into(scratch, &res[x..x_end], &res[y..y_end], b, u.ssets, u.n, k)
+    let x = block(res, u.b, at);
+    let y = block(res, u.b, i);
+    join_into(scratch, x, y, u.b, u.ssets, u.n, k)
 }
 
 // Joins the product in hand with a run of terminals.
-fn join_run(scratch: &mut [u64], res: &[u64], u: Setup, at: usize, k: u64, part: &[u16]) -> Grown
+fn join_run(
+    scratch: &mut [u64],
+    res: &[u64],
+    u: Setup,
+    at: usize,
+    k: u64,
+    part: &[u16],
+) -> Result<Grown, Refusal>
     requires { (Ready u k res.now scratch.old × Free u at) × ((1 ≤ length part.now) × PartIn u (run_part (map half part.now))) }
     ensures { InWork u k u.n 0 (part_join u at k res.now (run_part (map half part.now))) result scratch.old scratch.new }
 {
-    let b = u.b;
-    let x = at * b;
-    let x_end = x + b;
-    let one = blocks::single(run_string(part, k, u.w), k);
-    blocks::join_into(scratch, &res[x..x_end], &one, b, u.ssets, u.n, k)
+    let x = block(res, u.b, at);
+    let one = single(run_string(part, k, u.w), k);
+    join_into(scratch, x, &one, u.b, u.ssets, u.n, k)
 }
 
 // Joins the product in hand with a part.
-fn join_codes(scratch: &mut [u64], res: &[u64], u: Setup, at: usize, k: u64, part: &[u16]) -> Grown
+fn join_codes(
+    scratch: &mut [u64],
+    res: &[u64],
+    u: Setup,
+    at: usize,
+    k: u64,
+    part: &[u16],
+) -> Result<Grown, Refusal>
     requires { (Ready u k res.now scratch.old × Free u at) × ((1 ≤ length part.now) × PartIn u (part_of part.now)) }
     ensures { InWork u k u.n 0 (part_join u at k res.now (part_of part.now)) result scratch.old scratch.new }
 {
@@ -108,7 +111,7 @@ fn join_codes(scratch: &mut [u64], res: &[u64], u: Setup, at: usize, k: u64, par
     join_run(scratch, res, u, at, k, part)
 }
 
-// The product in hand joined with a part, as the new product in hand. Says whether it was too large.
+// The product in hand joined with a part, as the new product in hand. Refuses one that is too large.
 fn join_part(
     res: &mut [u64],
     scratch: &mut [u64],
@@ -116,18 +119,16 @@ fn join_part(
     at: usize,
     k: u64,
     part: &[u16],
-) -> bool
+) -> Result<(), Refusal>
     requires { (Ready u k res.old scratch.old × Free u at) × ((1 ≤ length part.now) × PartIn u (part_of part.now)) }
     ensures { Made u at k (within (room u) (part_join u at k res.old (part_of part.now))) result res.old scratch.old res.new scratch.new }
 {
-    if is_full(join_codes(scratch, res, u, at, k, part)) {
-        return true;
-    }
-    blocks::copy_block(res, scratch, u.b, u.rsets, u.ssets, u.n, at);
-    false
+    join_codes(scratch, res, u, at, k, part)?;
+    copy_block(res, scratch, u.b, u.rsets, u.ssets, u.n, at);
+    Ok(())
 }
 
-// The product in hand joined with the parts of a right side, from left to right. Says whether a product was too large.
+// The product in hand joined with the parts of a right side, from left to right. Refuses a product that is too large.
 fn join_parts(
     res: &mut [u64],
     scratch: &mut [u64],
@@ -135,22 +136,20 @@ fn join_parts(
     at: usize,
     k: u64,
     right: &[u16],
-) -> bool
+) -> Result<(), Refusal>
     requires { (Ready u k res.old scratch.old × Free u at) × Symbols u (map symbol_of right.now) }
     ensures { Made u at k (join_parts (room u) k (old_sets u res.old) (set_of (result_sets u res.old) at) (parts (map symbol_of right.now))) result res.old scratch.old res.new scratch.new }
 {
     let mut j = 0;
     while j < right.len() {
-        if blocks::is_complete(res, u.b, u.rsets, at, k) {
-            return false;
+        if is_complete(res, u.b, u.rsets, at, k) {
+            return Ok(());
         }
         let end = part_end(right, j);
-        if join_part(res, scratch, u, at, k, &right[j..end]) {
-            return true;
-        }
+        join_part(res, scratch, u, at, k, &right[j..end])?;
         j = end;
     }
-    false
+    Ok(())
 }
 
 // Makes set at of the result a copy of set i, by way of the scratch: two parts of one slice cannot be lent at once.
@@ -158,8 +157,8 @@ fn put_nonterminal(res: &mut [u64], scratch: &mut [u64], u: Setup, at: usize, k:
     requires { (Ready u k res.old scratch.old × Free u at) × PartIn u (single i) }
     ensures { Placed u at k (part_set k (old_sets u res.old) (single i)) res.old scratch.old res.new scratch.new }
 {
-    blocks::copy_block(scratch, res, u.b, u.ssets, u.rsets, i, u.n);
-    blocks::copy_block(res, scratch, u.b, u.rsets, u.ssets, u.n, at);
+    copy_block(scratch, res, u.b, u.ssets, u.rsets, i, u.n);
+    copy_block(res, scratch, u.b, u.rsets, u.ssets, u.n, at);
 }
 
 // Makes set at of the result the set of a run of terminals.
@@ -167,7 +166,7 @@ fn put_run(res: &mut [u64], scratch: &mut [u64], u: Setup, at: usize, k: u64, pa
     requires { (Ready u k res.old scratch.old × Free u at) × ((1 ≤ length part.now) × PartIn u (run_part (map half part.now))) }
     ensures { Placed u at k (part_set k (old_sets u res.old) (run_part (map half part.now))) res.old scratch.old res.new scratch.new }
 {
-    blocks::put_single(res, run_string(part, k, u.w), u.b, u.rsets, at, k);
+    put_single(res, run_string(part, k, u.w), u.b, u.rsets, at, k);
 }
 
 // Makes set at of the result the set of a part.
@@ -191,7 +190,7 @@ fn first_of_parts(
     at: usize,
     k: u64,
     right: &[u16],
-) -> bool
+) -> Result<(), Refusal>
     requires { (Ready u k res.old scratch.old × Free u at) × (Symbols u (map symbol_of right.now) × (1 ≤ length right.now)) }
     ensures { Made u at k (right_side (room u) k (old_sets u res.old) (map symbol_of right.now)) result res.old scratch.old res.new scratch.new }
 {
@@ -200,7 +199,7 @@ fn first_of_parts(
     join_parts(res, scratch, u, at, k, &right[end..])
 }
 
-// Makes set at of the result the product of the parts of a right side, {ε} where there are none. Says whether a product was too large.
+// Makes set at of the result the product of the parts of a right side, {ε} where there are none. Refuses a product that is too large.
 pub fn first_of_right_side(
     res: &mut [u64],
     scratch: &mut [u64],
@@ -208,13 +207,13 @@ pub fn first_of_right_side(
     at: usize,
     k: u64,
     right: &[u16],
-) -> bool
+) -> Result<(), Refusal>
     requires { (Ready u k res.old scratch.old × Free u at) × Symbols u (map symbol_of right.now) }
     ensures { Made u at k (right_side (room u) k (old_sets u res.old) (map symbol_of right.now)) result res.old scratch.old res.new scratch.new }
 {
     if 0 < right.len() {
         return first_of_parts(res, scratch, u, at, k, right);
     }
-    blocks::put_single(res, eps(u.w), u.b, u.rsets, at, k);
-    false
+    put_single(res, eps(u.w), u.b, u.rsets, at, k);
+    Ok(())
 }

@@ -2,7 +2,7 @@
 use Prim.Native.Nat.{ℕ, suc, ◌≤◌, ◌<◌}
 use native.Mathlib.Omega.{arith}
 use mathlib.Core.Path.{◌≡◌, refl, ◌∙◌, ap}
-use mathlib.Core.Bool.{Bool, true, false, not}
+use mathlib.Core.Bool.{Bool, true, false, not, cond}
 use mathlib.Core.List.{List}
 use lib.Dec.{ltb}
 use lib.ListN.{length, set}
@@ -12,8 +12,10 @@ use Rattle.k_tuple.specs.Strings.{Str}
 use Rattle.k_tuples.specs.Sets.{Sorted, union}
 use Rattle.k_tuples.specs.States.{State, set_of, size, same_sets}
 use Rattle.k_tuples.specs.Work.{Answer, got, refused, ◌>>=◌, Settling, settle}
-use Rattle.k_tuples.specs.Words.{grown, pick_grown}
-use Rattle.k_tuples.specs.declared.set.Grown.TheVariants.{Added, Same, Full}
+use Rattle.k_tuples.specs.Words.{grown}
+use Rattle.k_tuples.specs.declared.set.Grown.TheVariants.{Added, Same}
+use Rattle.std.specs.Prelude.{Ok, Err}
+use Rattle.refusals.specs.declared.Refusal.TheVariants.{SetTooLarge}
 use Rattle.k_tuples.proofs.Sets.{union-sorted, union-grows}
 use Rattle.k_tuples.proofs.Sorted.{part-whole}
 use Rattle.k_tuples.proofs.States.{size-set, same_sets-sound, same_sets-refl}
@@ -80,32 +82,20 @@ module _ (round : State → Answer State) (late left done : ℕ) (F : State) whe
 -- ---- what an operation tells that puts members into a set
 
 module _ (room old new : ℕ) where
-  pub told-full : Full ≡ grown room old new → room < new
-  unfolding grown
-  told-full e = by (ltb room new) refl e
-    where
-      by : (a : Bool) → ltb room new ≡ a → Full ≡ pick_grown a Full (pick_grown (ltb old new) Added Same) → room < new
-      by true p e = ltb-true _ _ p
-      by false p e = absurd (other (ltb old new) e)
-        where
-          other : (b : Bool) → Full ≡ pick_grown b Added Same → ⊥
-          other true e = let z : ◌≡◌ {A = ℕ} 0 1 = cc in omega arith
-          other false e = let z : ◌≡◌ {A = ℕ} 0 1 = cc in omega arith
-
-  pub told_same : Same ≡ grown room old new → (new ≤ room) × (new ≤ old)
+  pub told_same : Ok Same ≡ grown room old new → (new ≤ room) × (new ≤ old)
   unfolding grown
   told_same e = by (ltb room new) (ltb old new) refl refl e
     where
-      by : (a b : Bool) → ltb room new ≡ a → ltb old new ≡ b → Same ≡ pick_grown a Full (pick_grown b Added Same) → (new ≤ room) × (new ≤ old)
-      by true b p q e = let z : ◌≡◌ {A = ℕ} 0 1 = cc in absurd (omega arith)
-      by false true p q e = let z : ◌≡◌ {A = ℕ} 0 1 = cc in absurd (omega arith)
+      by : (a b : Bool) → ltb room new ≡ a → ltb old new ≡ b → Ok Same ≡ cond a (Err SetTooLarge) (Ok (cond b Added Same)) → (new ≤ room) × (new ≤ old)
+      by true b p q e = cc
+      by false true p q e = cc
       by false false p q e = (ltb-false _ _ p, ltb-false _ _ q)
 
-  pub told-added : Added ≡ grown room old new → (new ≤ room) × (old < new)
+  pub told-added : Ok Added ≡ grown room old new → (new ≤ room) × (old < new)
   unfolding grown
   told-added e = by (ltb room new) (ltb old new) refl refl e
     where
-      by : (a b : Bool) → ltb room new ≡ a → ltb old new ≡ b → Added ≡ pick_grown a Full (pick_grown b Added Same) → (new ≤ room) × (old < new)
-      by true b p q e = let z : ◌≡◌ {A = ℕ} 0 1 = cc in absurd (omega arith)
+      by : (a b : Bool) → ltb room new ≡ a → ltb old new ≡ b → Ok Added ≡ cond a (Err SetTooLarge) (Ok (cond b Added Same)) → (new ≤ room) × (old < new)
+      by true b p q e = cc
       by false true p q e = (ltb-false _ _ p, ltb-true _ _ q)
-      by false false p q e = let z : ◌≡◌ {A = ℕ} 0 1 = cc in absurd (omega arith)
+      by false false p q e = cc

@@ -30,20 +30,14 @@ module _ {n q : ℕ} {due₀ due : List ℕ} {a : ℕ} (l : Lowering n q due₀ 
 
   -- one more
   module _ (more : a < n) (in-due : n ≤ length due₀) where
-    next : (v : ℕ) → v ≡ get_or due a 0 - q → Lowering n q due₀ (set due a v) (a + 1)
-    next v e = record {
+    pub lowering-next : (v : ℕ) → v ≡ get_or due a 0 - q → Lowering n q due₀ (set due a v) (a + 1)
+    lowering-next v e = record {
       below = omega arith;
       long = length-set due a v ∙ l.long;
       less = below_more _ a (λ A b. get_or-set_other due a A v 0 (λ (z : A ≡ a). omega arith) ∙ l.less A b)
           (get_or-set_same due a v 0 (omega (arith, l.long)) ∙ e ∙ ap (λ (d : ℕ). d - q) (l.same a (omega arith)));
       same = λ A h. get_or-set_other due a A v 0 (λ (z : A ≡ a). omega arith) ∙ l.same A (omega arith);
     }
-
-    pub lowering-less : Lowering n q due₀ (set due a (get_or due a 0 - q)) (a + 1)
-    lowering-less = next (get_or due a 0 - q) refl
-
-    pub lowering-none : get_or due a 0 ≤ q → Lowering n q due₀ (set due a 0) (a + 1)
-    lowering-none h = next 0 (omega arith)
 
 -- ---- how a round begins
 

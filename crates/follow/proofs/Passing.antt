@@ -3,13 +3,14 @@
 use Prim.Native.Nat.{ℕ, ◌+◌, ◌-◌, ◌≤◌, ◌<◌}
 use native.Mathlib.Omega.{arith}
 use mathlib.Core.Path.{◌≡◌, refl, ◌∙◌, subst}
-use mathlib.Core.Bool.{Bool, true, false, true≢false, false≢true}
 use mathlib.Core.List.{List, [], ◌∷◌}
 use lib.ListN.{length, set}
 use Rattle.k_tuple.specs.Strings.{Str}
 use Rattle.k_tuples.specs.States.{State}
 use Rattle.k_tuples.specs.Blocks.{IsStored}
 use Rattle.k_tuples.specs.Work.{Answer}
+use Rattle.std.specs.Prelude.{Ok, Err}
+use Rattle.refusals.specs.declared.Refusal.{Refusal}
 use Rattle.blocks.specs.Stores.{Turned}
 use Rattle.blocks.proofs.Stores.{turned-store, turned-beyond, turned-length, turned_then, same-long}
 use Rattle.first.specs.declared.Setup.{Setup}
@@ -56,10 +57,9 @@ module _ (u : Setup) (k : ℕ) (words result₀ scratch₀ : List ℕ) (P : List
 
     module _ {Over : Type 0} {Good : State → Type 0} where
       -- no position more
-      pub passing-end : u.rsets - places_at u ≤ i → ((Z : State) → length Z ≤ i → P [] i Z → Good Z) → Passed u k Over Good false result₀ scratch₀ result scratch
+      pub passing-end : u.rsets - places_at u ≤ i → ((Z : State) → length Z ≤ i → P [] i Z → Good Z) → Passed u k Over Good (Ok tt) result₀ scratch₀ result scratch
       passing-end l good = record {
-        over = λ e. absurd (false≢true e);
-        done = λ _. record {
+        ends = record {
           places = h.places;
           good = good h.places (omega (arith, row-length h.row)) (subst (λ (os : List Occurrence). P os i h.places) (way_end h.way l) h.worth);
           row = h.row;
@@ -80,18 +80,17 @@ module _ (u : Setup) (k : ℕ) (words result₀ scratch₀ : List ℕ) (P : List
       pub passing-short : i < length h.places
       passing-short = omega (arith, (met_at h.way m).place, row-length h.row)
 
-      module _ {answer : Answer (List Str)} {full : Bool} {result' scratch' : List ℕ} (t : Made u (places_at u + i) k answer full result scratch result' scratch') where
-        pub passing-over : {Over : Type 0} {Good : State → Type 0} → Over → Passed u k Over Good true result₀ scratch₀ result' scratch'
-        passing-over o = record {
-          over = λ _. o;
-          done = λ e. absurd (true≢false e);
+      module _ {answer : Answer (List Str)} {result' scratch' : List ℕ} where
+        pub passing-over : {e : Refusal} → Made u (places_at u + i) k answer (Err e) result scratch result' scratch' → {Over : Type 0} {Good : State → Type 0} → Over → Passed u k Over Good (Err e) result₀ scratch₀ result' scratch'
+        passing-over t o = record {
+          ends = (o, t.ends.1);
           result-beyond = t.result-beyond ∙ turned-beyond h.row.turned;
           scratch-beyond = t.scratch-beyond ∙ h.beyond;
         }
 
-        pub passing-next : (e : full ≡ false) → P (to_come words w') (i + 1) (set h.places i (t.done e).product) → Passing w' (i + 1) result' scratch'
-        passing-next e p =
-            let d = t.done e in
+        pub passing-next : (t : Made u (places_at u + i) k answer (Ok tt) result scratch result' scratch') → P (to_come words w') (i + 1) (set h.places i t.ends.product) → Passing w' (i + 1) result' scratch'
+        passing-next t p =
+            let d = t.ends in
             let A = first_sets u result₀ in
             let F = follow_sets u result₀ in
             record {

@@ -1,7 +1,8 @@
 -- The pass that makes the sets of the positions. Assumes nothing.
 use Prim.Native.Nat.{ℕ, ◌+◌, ◌-◌, ◌≤◌}
 use mathlib.Core.Path.{◌≡◌, sym, ap, ap₂, ◌∙◌}
-use mathlib.Core.Bool.{Bool, true, false}
+use Rattle.std.specs.Prelude.{Result, Ok, Err}
+use Rattle.refusals.specs.declared.Refusal.{Refusal}
 use mathlib.Core.List.{List}
 use Rattle.k_tuple.specs.Strings.{Str}
 use Rattle.k_tuples.specs.Sets.{join_sets}
@@ -26,8 +27,8 @@ module _ (u : Setup) (k : ℕ) (words result₀ scratch₀ : List ℕ) where
   abbrev answer : Answer State
   answer = position_sets (room u) k (old_sets u result₀) (occurrences u words) (follow_sets u result₀)
 
-  abbrev Ends : Bool → (result scratch : List ℕ) → Type 0
-  Ends full result scratch = Passed u k (answer ≡ refused 11) (λ Z. answer ≡ got Z) full result₀ scratch₀ result scratch
+  abbrev Ends : Result (Unit {0}) Refusal → (result scratch : List ℕ) → Type 0
+  Ends r result scratch = Passed u k (answer ≡ refused 11) (λ Z. answer ≡ got Z) r result₀ scratch₀ result scratch
 
   pub positioning-start : Ready u k result₀ scratch₀ → Suffixed u k words result₀ → Positioning (start_of u.p) 0 result₀ scratch₀
   positioning-start r s =
@@ -35,14 +36,17 @@ module _ (u : Setup) (k : ℕ) (words result₀ scratch₀ : List ℕ) where
       (placing-start (room u) k (old_sets u result₀) (occurrences u words) (follow_sets u result₀) (place_sets u result₀) s.suffixes)
 
   module _ (ready : Ready u k result₀ scratch₀) {w : Walk} {i : ℕ} {result scratch : List ℕ} (h : Positioning w i result scratch) where
-    pub positioning-end : u.rsets - places_at u ≤ i → Ends false result scratch
+    pub positioning-end : u.rsets - places_at u ≤ i → Ends (Ok tt) result scratch
     positioning-end l = passing-end u k words result₀ scratch₀ _ ready h l (placing-end (room u) k (old_sets u result₀) (occurrences u words) (follow_sets u result₀) i)
 
-    module _ {w' : Walk} (m : Met words w w') {full : Bool} {result' scratch' : List ℕ}
-        (t : Made u (places_at u + i) k (within (room u) (join_sets k (set_of (result_sets u result) (places_at u + i)) (set_of (result_sets u result) (follow_at u + w'.source)))) full result scratch result' scratch') where
+    module _ {w' : Walk} (m : Met words w w') where
+      -- the join
+      abbrev joined : Answer (List Str)
+      joined = within (room u) (join_sets k (set_of (result_sets u result) (places_at u + i)) (set_of (result_sets u result) (follow_at u + w'.source)))
+
       -- the suffix set and the source's set are the two that were joined
       here : within (room u) (join_sets k (set_of h.places i) (set_of (follow_sets u result₀) w'.source))
-          ≡ within (room u) (join_sets k (set_of (result_sets u result) (places_at u + i)) (set_of (result_sets u result) (follow_at u + w'.source)))
+          ≡ joined
       here =
           let A = first_sets u result₀ in
           let F = follow_sets u result₀ in
@@ -50,12 +54,12 @@ module _ (u : Setup) (k : ℕ) (words result₀ scratch₀ : List ℕ) where
           (sym (ap (λ (R : State). set_of R (places_at u + i)) (row-sets h.row) ∙ third_at A F h.places h.row.before h.row.many i))
           (sym (ap (λ (R : State). set_of R (follow_at u + w'.source)) (row-sets h.row) ∙ second_at A F h.places h.row.before h.row.many w'.source (met_at h.way m).from))
 
-      pub positioning-over : full ≡ true → Ends true result' scratch'
-      positioning-over e =
+      pub positioning-over : {e : Refusal} {result' scratch' : List ℕ} → Made u (places_at u + i) k joined (Err e) result scratch result' scratch' → Ends (Err e) result' scratch'
+      positioning-over t =
           passing-over u k words result₀ scratch₀ _ ready h m t
-          (placing-over (room u) k (old_sets u result₀) (occurrences u words) (passing-here u k words result₀ scratch₀ _ ready h m) (here ∙ t.over e))
+          (placing-over (room u) k (old_sets u result₀) (occurrences u words) (passing-here u k words result₀ scratch₀ _ ready h m) (here ∙ t.ends.0))
 
-      pub positioning-more : full ≡ false → Positioning w' (i + 1) result' scratch'
-      positioning-more e =
-          passing-next u k words result₀ scratch₀ _ ready h m t e
-          (placing-more (room u) k (old_sets u result₀) (occurrences u words) (passing-here u k words result₀ scratch₀ _ ready h m) (passing-short u k words result₀ scratch₀ _ ready h m) _ (here ∙ (t.done e).made))
+      pub positioning-more : {result' scratch' : List ℕ} → Made u (places_at u + i) k joined (Ok tt) result scratch result' scratch' → Positioning w' (i + 1) result' scratch'
+      positioning-more t =
+          passing-next u k words result₀ scratch₀ _ ready h m t
+          (placing-more (room u) k (old_sets u result₀) (occurrences u words) (passing-here u k words result₀ scratch₀ _ ready h m) (passing-short u k words result₀ scratch₀ _ ready h m) _ (here ∙ t.ends.made))

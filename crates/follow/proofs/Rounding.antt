@@ -4,16 +4,17 @@ use Prim.Native.Nat.{ℕ, ◌+◌, ◌-◌, ◌*◌, ◌≤◌, ◌<◌}
 use native.Mathlib.Nat.{mul-le-mul_left}
 use native.Mathlib.Omega.{arith}
 use mathlib.Core.Path.{◌≡◌, sym, ap, ◌∙◌}
-use mathlib.Core.Bool.{Bool, true, false, not, true≢false}
+use mathlib.Core.Bool.{Bool, true, false, not}
 use mathlib.Core.List.{List, [], ◌∷◌}
 use lib.ListN.{length, get_or, set, length-set}
 use Rattle.k_tuple.specs.Strings.{Str}
 use Rattle.k_tuples.specs.Sets.{Sorted, union, join_sets}
-use Rattle.k_tuples.specs.Words.{grown, is_full}
+use Rattle.k_tuples.specs.Words.{Growth, grown, is_full}
 use Rattle.k_tuples.specs.States.{State, set_of}
 use Rattle.k_tuples.specs.Work.{Answer}
-use Rattle.k_tuples.specs.declared.set.Grown.{Grown}
-use Rattle.k_tuples.specs.declared.set.Grown.TheVariants.{Added, Same, Full}
+use Rattle.k_tuples.specs.declared.set.Grown.TheVariants.{Added, Same}
+use Rattle.std.specs.Prelude.{Ok, Err}
+use Rattle.refusals.specs.declared.Refusal.{Refusal}
 use Rattle.k_tuples.proofs.Blocks.{length-sets, stored-length}
 use Rattle.blocks.proofs.Stores.{turned-beyond, turned-length}
 use Rattle.first.specs.declared.Setup.{Setup}
@@ -23,16 +24,13 @@ use Rattle.follow.specs.declared.walk.Walk.{Walk}
 use Rattle.follow.specs.Walk.{to_come, Met, start_of}
 use Rattle.follow.specs.Due.{TakenDue, was-due, not-due, Due}
 use Rattle.follow.specs.Steps.{first_sets, follow_sets, place_sets, occurrences, Stands, Copied, Running, At, Taken, round_told, Rounded}
-use Rattle.follow.proofs.Growing.{union-unchanged, grows-told, told-full, told_same, told-added}
+use Rattle.first.proofs.Walk.{told-large}
+use Rattle.follow.proofs.Growing.{union-unchanged, grows-told, told_same, told-added}
 use Rattle.follow.proofs.Idling.{Turning, turning-start, turning-end, turning-skipped, turning-idle, turning-grown}
 use Rattle.follow.proofs.Seeking.{start-come}
 use Rattle.follow.proofs.Passes.{Taking, taking-start, taking-end, taking-suffix, taking-idle, taking-over, taking-same, taking-added, taking-skip}
 use Rattle.follow.proofs.Standing.{row_old, row-follow, stands-start, stands-ready, stands-copied, stands-sorted, stands-room, taken-answer, taken-stands}
 use Rattle.follow.proofs.Way.{Way, way-start, way_end, way_next, met, met_at}
-
-never-full : (b : Bool) → is_full (round_told b) ≡ true → ⊥
-never-full true e = true≢false (sym e)
-never-full false e = true≢false (sym e)
 
 -- the numbers of the equations of two rounds can be counted
 pub numbers_fit : {u : Setup} {k : ℕ} {result scratch : List ℕ} → Ready u k result scratch → 2 * u.rsets ≤ length result
@@ -84,12 +82,11 @@ module _ (u : Setup) (k : ℕ) (words result₀ scratch₀ : List ℕ) where
     scratch-length = turned-length h.stands.in-scratch run.ready.scratch-store
 
     -- no equation more
-    pub rounding-end : u.rsets - (u.n + u.p + u.n) ≤ i → (b : Bool) → added ≡ b → Rounded u k answer (round_told (not b)) result₀ scratch₀ result scratch
+    pub rounding-end : u.rsets - (u.n + u.p + u.n) ≤ i → (b : Bool) → added ≡ b → Rounded u k answer (Ok (round_told (not b))) result₀ scratch₀ result scratch
     rounding-end l b e =
         let t : TakingFrom [] i h.sets added = rw (way_end h.way l) at h.taking in
         record {
-          over = λ f. absurd (never-full (not b) f);
-          done = λ _. record {
+          ends = record {
             new = h.sets;
             made = taking-end (room u) k (old_sets u result₀) (occurrences u words) t;
             told = ap round_told (ap not (sym e) ∙ sym (grows-told t.grows));
@@ -143,7 +140,7 @@ module _ (u : Setup) (k : ℕ) (words result₀ scratch₀ : List ℕ) where
           }
 
       -- it is taken
-      module _ {r : Grown} {result' scratch' : List ℕ} (t : Taken u k i w'.source w'.target r result scratch result' scratch') where
+      module _ {r : Growth} {result' scratch' : List ℕ} (t : Taken u k i w'.source w'.target r result scratch result' scratch') where
         abbrev join : List Str
         join = join_sets k (set_of (place_sets u result₀) i) (set_of F w'.source)
 
@@ -164,16 +161,15 @@ module _ (u : Setup) (k : ℕ) (words result₀ scratch₀ : List ℕ) where
           long = l;
         }
 
-        taken-over : r ≡ Full → Rounded u k answer Full result₀ scratch₀ result' scratch'
-        taken-over e = record {
-          over = λ _. taking-over (room u) k X (occurrences u words) coming sorted (told-full (room u) _ _ (sym e ∙ told));
-          done = λ (n : true ≡ false). absurd (true≢false n);
+        taken-over : {e : Refusal} → r ≡ Err e → Rounded u k answer (Err e) result₀ scratch₀ result' scratch'
+        taken-over e = let large = told-large (room u) _ _ (sym e ∙ told) in record {
+          ends = (taking-over (room u) k X (occurrences u words) coming sorted large.0, large.1);
           result-beyond = t.result-beyond ∙ turned-beyond h.stands.row.turned;
           scratch-beyond = t.scratch-beyond ∙ turned-beyond h.stands.in-scratch;
         }
 
         -- it is idle now
-        taken-same : r ≡ Same → Rounding w' (i + 1) added result' scratch' due
+        taken-same : r ≡ Ok Same → Rounding w' (i + 1) added result' scratch' due
         taken-same e =
             let l = told_same (room u) _ _ (sym e ∙ told) in
             let idle = taking-idle (room u) k X (occurrences u words) coming sorted l.1 in
@@ -182,7 +178,7 @@ module _ (u : Setup) (k : ℕ) (words result₀ scratch₀ : List ℕ) where
             h.long
 
         -- its target's growth is noted
-        taken-added : r ≡ Added → Rounding w' (i + 1) true result' scratch' (set due w'.target (u.rsets - (u.n + u.p + u.n) + i + 1))
+        taken-added : r ≡ Ok Added → Rounding w' (i + 1) true result' scratch' (set due w'.target (u.rsets - (u.n + u.p + u.n) + i + 1))
         taken-added e =
             let l = told-added (room u) _ _ (sym e ∙ told) in
             let in-sets : w'.target < length F = rw h.stands.row.many a.to in
@@ -193,17 +189,17 @@ module _ (u : Setup) (k : ℕ) (words result₀ scratch₀ : List ℕ) where
             (length-set due w'.target _ ∙ h.long)
 
       -- it is taken if it is due
-      abbrev Step : Grown → (result' scratch' due' : List ℕ) → Type 0
+      abbrev Step : Growth → (result' scratch' due' : List ℕ) → Type 0
       Step r = TakenDue u k i w'.source w'.target r result scratch due
 
-      pub rounding-over : {r : Grown} {result' scratch' due' : List ℕ} → Step r result' scratch' due' → r ≡ Full → Rounded u k answer Full result₀ scratch₀ result' scratch'
+      pub rounding-over : {r : Growth} {e : Refusal} {result' scratch' due' : List ℕ} → Step r result' scratch' due' → r ≡ Err e → Rounded u k answer (Err e) result₀ scratch₀ result' scratch'
       rounding-over (was-due t n) e = taken-over t e
-      rounding-over (not-due l s f g n) e = let z : ◌≡◌ {A = ℕ} 0 1 = cc in absurd (omega arith)
+      rounding-over (not-due l s f g n) e = cc
 
-      pub rounding-same : {r : Grown} {result' scratch' due' : List ℕ} → Step r result' scratch' due' → r ≡ Same → Rounding w' (i + 1) added result' scratch' due'
+      pub rounding-same : {r : Growth} {result' scratch' due' : List ℕ} → Step r result' scratch' due' → r ≡ Ok Same → Rounding w' (i + 1) added result' scratch' due'
       rounding-same (was-due t n) e = rw (n, e) (taken-same t e)
       rounding-same (not-due l s f g n) e = rw (f, g, n) (passed_over l)
 
-      pub rounding-added : {r : Grown} {result' scratch' due' : List ℕ} → Step r result' scratch' due' → r ≡ Added → Rounding w' (i + 1) true result' scratch' due'
+      pub rounding-added : {r : Growth} {result' scratch' due' : List ℕ} → Step r result' scratch' due' → r ≡ Ok Added → Rounding w' (i + 1) true result' scratch' due'
       rounding-added (was-due t n) e = rw (n, e) (taken-added t e)
-      rounding-added (not-due l s f g n) e = let z : ◌≡◌ {A = ℕ} 0 1 = cc in absurd (omega arith)
+      rounding-added (not-due l s f g n) e = cc

@@ -2,18 +2,19 @@
 use Prim.Native.Nat.{ℕ, ◌+◌, ◌*◌, ◌≤◌, ◌<◌}
 use native.Mathlib.Omega.{arith}
 use mathlib.Core.Path.{◌≡◌, refl, sym, ap, ap₂, ◌∙◌, subst}
-use mathlib.Core.Bool.{true, false, true≢false}
+use mathlib.Core.Bool.{false, true≢false}
 use mathlib.Core.List.{List, [], ◌++◌}
 use lib.ListN.{length, take, drop, set, length-append, length-drop, length-set, take-append-drop}
 use lib.Seq.{get_or-take, get_or-drop, set-get_or, get_or-set_same, length-take-le, take_at, drop_at, take-take, set-append_left}
 use Rattle.k_tuple.specs.Strings.{Str}
 use Rattle.k_tuples.specs.Sets.{Sorted, union, join_sets}
 use Rattle.k_tuples.specs.States.{State, set_of}
-use Rattle.k_tuples.specs.declared.set.Grown.{Grown}
-use Rattle.k_tuples.specs.declared.set.Grown.TheVariants.{Added, Same, Full}
+use Rattle.k_tuples.specs.declared.set.Grown.TheVariants.{Added, Same}
+use Rattle.std.specs.Prelude.{Ok, Err}
+use Rattle.refusals.specs.declared.Refusal.{Refusal}
 use Rattle.k_tuples.proofs.Blocks.{kept_at, in-sets, length-sets, part_room, part-holds}
 use Rattle.k_tuples.proofs.Words.{words-room}
-use Rattle.k_tuples.specs.Words.{is_full, grown}
+use Rattle.k_tuples.specs.Words.{Growth, is_full, grown}
 use Rattle.k_tuples.specs.Held.{Holds}
 use Rattle.k_tuples.specs.Blocks.{part_at, Kept}
 use Rattle.blocks.specs.Stores.{Turned, Filled, Both, CopiedBlock}
@@ -42,7 +43,7 @@ copy_at {u} {result} {scratch} e A h =
     ∙ get_or-drop (follow_at u) (result_sets u result) A []
 
 -- the join was added to the copy, which is as good as the set
-pub join-from-copy : (u : Setup) (k i source target : ℕ) {result scratch scratch' : List ℕ} {r : Grown} → Copied u result scratch → target < u.n
+pub join-from-copy : (u : Setup) (k i source target : ℕ) {result scratch scratch' : List ℕ} {r : Growth} → Copied u result scratch → target < u.n
     → (let old = set_of (scratch_sets u scratch) target in
     Filled k u.w u.b u.ssets target (length old) (union old (join_sets k (set_of (result_sets u result) (places_at u + i)) (set_of (result_sets u result) (follow_at u + source)))) r scratch scratch')
     → JoinedIn u k i source target r result scratch scratch'
@@ -60,23 +61,22 @@ module _ (u : Setup) (k i source target : ℕ) {result scratch : List ℕ} (read
   abbrev new : List Str
   new = joined u k i source target result
 
-  module _ {r : Grown} {scratch' : List ℕ} (f : JoinedIn u k i source target r result scratch scratch') where
-    pub taken-full : r ≡ Full → Taken u k i source target r result scratch result scratch'
-    taken-full e =
-        let full : is_full r ≡ true = ap is_full e in
+  module _ {scratch' : List ℕ} where
+    pub taken-full : {e : Refusal} → JoinedIn u k i source target (Err e) result scratch scratch' → Taken u k i source target (Err e) result scratch result scratch'
+    taken-full f =
         record {
           answer = f.answer;
-          in-result = λ (n : is_full r ≡ false). absurd (true≢false (sym full ∙ n));
-          in-scratch = λ (n : is_full r ≡ false). absurd (true≢false (sym full ∙ n));
+          in-result = λ n. absurd (true≢false n);
+          in-scratch = λ n. absurd (true≢false n);
           result-beyond = refl;
           scratch-beyond = f.step.beyond;
         }
 
-    pub taken-same : r ≡ Same → Taken u k i source target r result scratch result scratch'
-    taken-same e =
+    pub taken-same : JoinedIn u k i source target (Ok Same) result scratch scratch' → Taken u k i source target (Ok Same) result scratch result scratch'
+    taken-same f =
         let s = ready.result-store in
         let sorted = (kept_at (result_sets u result) (follow_at u + target) s.stored.kept (in-sets s (omega (arith, at.place, at.to)))).sorted in
-        let idle : new ≡ old = sym (union-whole old _ sorted (told_same (room u) (length old) (length new) (sym e ∙ f.answer)).1) in
+        let idle : new ≡ old = sym (union-whole old _ sorted (told_same (room u) (length old) (length new) f.answer).1) in
         record {
           answer = f.answer;
           in-result = λ _. rw (idle, set-get_or (result_sets u result) (follow_at u + target) []) (as-turned s);
@@ -85,15 +85,15 @@ module _ (u : Setup) (k i source target : ℕ) {result scratch : List ℕ} (read
           scratch-beyond = f.step.beyond;
         }
 
-    module _ (e : r ≡ Added) where
+    module _ (f : JoinedIn u k i source target (Ok Added) result scratch scratch') where
       filled : Turned k u.w u.b u.ssets (set (scratch_sets u scratch) target new) scratch scratch'
-      filled = filled-turned f (ap is_full e)
+      filled = filled-turned f refl
 
       pub added-both : Both u.b u.rsets u.ssets result scratch'
       added-both = record { k = k; width = u.w; first = ready.result-store; second = turned-store filled }
 
       pub taken-added : {result' : List ℕ} → CopiedBlock u.b u.rsets u.ssets target (follow_at u + target) scratch' result result'
-          → Taken u k i source target r result scratch result' scratch'
+          → Taken u k i source target (Ok Added) result scratch result' scratch'
       taken-added {result'} c =
           let there : set_of (scratch_sets u scratch') target ≡ new =
           ap (λ (F : State). set_of F target) (turned-sets filled) ∙ get_or-set_same (scratch_sets u scratch) target new [] (in-sets ready.scratch-store (omega (arith, at.to, ready.work))) in
@@ -186,7 +186,7 @@ module _ {u : Setup} {k : ℕ} {A F Z : State} {result₀ scratch₀ result scra
       stands-joined =
           rw (row-sets s.row, second_at A F Z s.row.before s.row.many target h, second_at A F Z s.row.before s.row.many source from, third_at A F Z s.row.before s.row.many i)
 
-      module _ {r : Grown} {result' scratch' : List ℕ} (t : Taken u k i source target r result scratch result' scratch') where
+      module _ {r : Growth} {result' scratch' : List ℕ} (t : Taken u k i source target r result scratch result' scratch') where
         pub taken-answer : r ≡ grown (room u) (length (set_of F target)) (length made)
         taken-answer =
             t.answer

@@ -1,7 +1,8 @@
 -- The pass that makes the suffix sets. Assumes nothing.
 use Prim.Native.Nat.{ℕ, ◌+◌, ◌-◌, ◌≤◌}
 use mathlib.Core.Path.{◌≡◌, sym, ap, ◌∙◌}
-use mathlib.Core.Bool.{Bool, true, false}
+use Rattle.std.specs.Prelude.{Result, Ok, Err}
+use Rattle.refusals.specs.declared.Refusal.{Refusal}
 use mathlib.Core.List.{List}
 use Rattle.k_tuples.specs.States.{State}
 use Rattle.k_tuples.specs.Work.{refused}
@@ -23,30 +24,29 @@ module _ (u : Setup) (k : ℕ) (words result₀ scratch₀ : List ℕ) where
   abbrev pub Suffixing : Walk → ℕ → (result scratch : List ℕ) → Type 0
   Suffixing = Passing u k words result₀ scratch₀ (Making (room u) k (old_sets u result₀) (occurrences u words))
 
-  abbrev Ends : Bool → (result scratch : List ℕ) → Type 0
-  Ends full result scratch =
-      Passed u k (follow (room u) k (grammar_in u words) (old_sets u result₀) ≡ refused 11) (Suffixes (room u) k (old_sets u result₀) (occurrences u words)) full result₀ scratch₀ result scratch
+  abbrev Ends : Result (Unit {0}) Refusal → (result scratch : List ℕ) → Type 0
+  Ends r result scratch =
+      Passed u k (follow (room u) k (grammar_in u words) (old_sets u result₀) ≡ refused 11) (Suffixes (room u) k (old_sets u result₀) (occurrences u words)) r result₀ scratch₀ result scratch
 
   pub suffixing-start : Ready u k result₀ scratch₀ → Grammatical u words → Suffixing (start_of u.p) 0 result₀ scratch₀
   suffixing-start r g = passing-start u k words result₀ scratch₀ _ r g (making-start (room u) k (old_sets u result₀) (occurrences u words) (place_sets u result₀))
 
   module _ (ready : Ready u k result₀ scratch₀) {w : Walk} {i : ℕ} {result scratch : List ℕ} (h : Suffixing w i result scratch) where
-    pub suffixing-end : u.rsets - places_at u ≤ i → Ends false result scratch
+    pub suffixing-end : u.rsets - places_at u ≤ i → Ends (Ok tt) result scratch
     suffixing-end l = passing-end u k words result₀ scratch₀ _ ready h l (making-end (room u) k (old_sets u result₀) (occurrences u words) i)
 
-    module _ {w' : Walk} (m : Met words w w') {full : Bool} {result' scratch' : List ℕ}
-        (t : Made u (places_at u + i) k (right_side (room u) k (old_sets u result) (symbols_left words w')) full result scratch result' scratch') where
+    module _ {w' : Walk} (m : Met words w w') where
       -- over the sets of the nonterminals at entry
       here : right_side (room u) k (old_sets u result₀) (symbols_left words w') ≡ right_side (room u) k (old_sets u result) (symbols_left words w')
       here = ap (λ (X : State). right_side (room u) k X (symbols_left words w')) (sym (row_old h.row))
 
-      pub suffixing-over : full ≡ true → Ends true result' scratch'
-      suffixing-over e =
+      pub suffixing-over : {e : Refusal} {result' scratch' : List ℕ} → Made u (places_at u + i) k (right_side (room u) k (old_sets u result) (symbols_left words w')) (Err e) result scratch result' scratch' → Ends (Err e) result' scratch'
+      suffixing-over t =
           passing-over u k words result₀ scratch₀ _ ready h m t
           (follow-refuses (room u) k (old_sets u result₀) (grammar_in u words)
-          (making-over (room u) k (old_sets u result₀) (occurrences u words) _ _ i h.places (passing-here u k words result₀ scratch₀ _ ready h m) (here ∙ t.over e)))
+          (making-over (room u) k (old_sets u result₀) (occurrences u words) _ _ i h.places (passing-here u k words result₀ scratch₀ _ ready h m) (here ∙ t.ends.0)))
 
-      pub suffixing-more : full ≡ false → Suffixing w' (i + 1) result' scratch'
-      suffixing-more e =
-          passing-next u k words result₀ scratch₀ _ ready h m t e
-          (making-more (room u) k (old_sets u result₀) (occurrences u words) _ _ i h.places (passing-here u k words result₀ scratch₀ _ ready h m) (passing-short u k words result₀ scratch₀ _ ready h m) _ (here ∙ (t.done e).made))
+      pub suffixing-more : {result' scratch' : List ℕ} → Made u (places_at u + i) k (right_side (room u) k (old_sets u result) (symbols_left words w')) (Ok tt) result scratch result' scratch' → Suffixing w' (i + 1) result' scratch'
+      suffixing-more t =
+          passing-next u k words result₀ scratch₀ _ ready h m t
+          (making-more (room u) k (old_sets u result₀) (occurrences u words) _ _ i h.places (passing-here u k words result₀ scratch₀ _ ready h m) (passing-short u k words result₀ scratch₀ _ ready h m) _ (here ∙ t.ends.made))

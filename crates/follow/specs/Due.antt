@@ -1,13 +1,13 @@
 -- Which equations of FOLLOW are due. A list has a number for each nonterminal: the equations with that source that are numbered below it are due,
 -- and every other equation has nothing to add. In a round, equation i has number i, and behind the last the numbers go on with the equations of
 -- the next round. Assumes nothing.
-use Rattle.std.specs.Prelude.{ℕ, ◌+◌, ◌-◌, ◌≤◌, ◌<◌, List, [], ◌∷◌, ◌≡◌, length, get_or, set}
+use Rattle.std.specs.Prelude.{ℕ, ◌+◌, ◌-◌, ◌≤◌, ◌<◌, List, [], ◌∷◌, ◌≡◌, length, get_or, set, Ok, Err}
 use Rattle.k_tuple.specs.Strings.{Str}
 use Rattle.k_tuples.specs.Sets.{◌⊆◌, join_sets}
 use Rattle.k_tuples.specs.States.{State, set_of}
 use Rattle.k_tuples.specs.Work.{got}
-use Rattle.k_tuples.specs.declared.set.Grown.{Grown}
-use Rattle.k_tuples.specs.declared.set.Grown.TheVariants.{Added, Same, Full}
+use Rattle.k_tuples.specs.Words.{Growth}
+use Rattle.k_tuples.specs.declared.set.Grown.TheVariants.{Added, Same}
 use Rattle.first.specs.declared.Setup.{Setup}
 use Rattle.first.specs.Steps.{old_sets, room}
 use Rattle.first_theory.specs.Compute.{right_side}
@@ -27,15 +27,15 @@ pub data DueOrIdle (c k : ℕ) (X F : State) (due : List ℕ) : ℕ → List Occ
 -- ---- an equation
 
 -- after equation i the equations with its target as source are due until it comes again, and it is too, if it added a string
-abbrev pub noted : Setup → (i target : ℕ) → Grown → List ℕ → List ℕ
-noted u i target Added due = set due target (u.rsets - places_at u + i + 1)
-noted u i target Same due = due
-noted u i target Full due = due
+abbrev pub noted : Setup → (i target : ℕ) → Growth → List ℕ → List ℕ
+noted u i target (Ok Added) due = set due target (u.rsets - places_at u + i + 1)
+noted u i target (Ok Same) due = due
+noted u i target (Err e) due = due
 
 -- equation i was due, and is taken; or it was not, and nothing is changed
-pub data TakenDue (u : Setup) (k i source target : ℕ) (r : Grown) (result scratch due result' scratch' due' : List ℕ) : Type 0 where
+pub data TakenDue (u : Setup) (k i source target : ℕ) (r : Growth) (result scratch due result' scratch' due' : List ℕ) : Type 0 where
   was-due : Taken u k i source target r result scratch result' scratch' → due' ≡ noted u i target r due → TakenDue u k i source target r result scratch due result' scratch' due'
-  not-due : get_or due source 0 ≤ i → r ≡ Same → result' ≡ result → scratch' ≡ scratch → due' ≡ due → TakenDue u k i source target r result scratch due result' scratch' due'
+  not-due : get_or due source 0 ≤ i → r ≡ Ok Same → result' ≡ result → scratch' ≡ scratch → due' ≡ due → TakenDue u k i source target r result scratch due result' scratch' due'
 
 -- ---- a round
 

@@ -1,25 +1,24 @@
 -- Where FOLLOW's sets stand in the two lent buffers, and what the steps of FOLLOW do to them. The result holds FIRST of the nonterminals and of
 -- the productions, FOLLOW of the nonterminals, and a set for each position; while FOLLOW runs, that is the position's suffix set, and the
 -- scratch begins with a copy of the FOLLOW sets. Assumes nothing.
-use Rattle.std.specs.Prelude.{ℕ, ◌+◌, ◌≤◌, ◌<◌, Bool, true, false, List, ◌++◌, ◌≡◌, length, take, drop, set}
+use Rattle.std.specs.Prelude.{ℕ, ◌+◌, ◌≤◌, ◌<◌, Bool, true, false, List, ◌++◌, ◌≡◌, length, take, drop, set, Result}
 use Rattle.k_tuple.specs.Strings.{Str}
 use Rattle.k_tuples.specs.Sets.{union, join_sets}
 use Rattle.k_tuples.specs.States.{State, set_of, same_sets}
-use Rattle.k_tuples.specs.Words.{grown, is_full}
+use Rattle.k_tuples.specs.Words.{Growth, grown, is_full}
 use Rattle.k_tuples.specs.Work.{Answer, refused, got, Settling}
 use Rattle.k_tuples.specs.Blocks.{IsStored}
 use Rattle.k_tuples.specs.declared.set.Grown.{Grown}
 use Rattle.k_tuples.specs.declared.set.Grown.TheVariants.{Added, Same}
+use Rattle.refusals.specs.declared.Refusal.{Refusal}
 use Rattle.cfg.specs.Written.{productions_of}
 use Rattle.blocks.specs.Stores.{Turned, Filled}
 use Rattle.first.specs.declared.Setup.{Setup}
-use Rattle.first.specs.Steps.{result_sets, scratch_sets, past_result, past_scratch, old_sets, room, Ready}
+use Rattle.first.specs.Steps.{result_sets, scratch_sets, past_result, past_scratch, old_sets, room, Ready, OrTooLarge}
 use Rattle.first.specs.Rounds.{Rules}
 use Rattle.follow_theory.specs.Equations.{start}
 use Rattle.follow_theory.specs.Follow.{Occurrence, occurrences_of}
 use Rattle.follow.specs.Suffixes.{Suffixes}
-use Rattle.first.specs.declared.Ending.{Ending}
-use Rattle.first.specs.declared.Ending.TheVariants.{Settled, Refused}
 
 -- ---- the layout
 
@@ -115,12 +114,12 @@ joined u k i source target ws =
     union (set_of R (follow_at u + target)) (join_sets k (set_of R (places_at u + i)) (set_of R (follow_at u + source)))
 
 -- that is the target's set in the scratch now, if there was room for it, and r tells
-abbrev pub JoinedIn : Setup → (k i source target : ℕ) → Grown → (result scratch scratch' : List ℕ) → Type 0
+abbrev pub JoinedIn : Setup → (k i source target : ℕ) → Growth → (result scratch scratch' : List ℕ) → Type 0
 JoinedIn u k i source target r result scratch scratch' =
     Filled k u.w u.b u.ssets target (length (set_of (result_sets u result) (follow_at u + target))) (joined u k i source target result) r scratch scratch'
 
 -- that is the target's set now in both, if there was room for it, and r tells
-pub record Taken (u : Setup) (k i source target : ℕ) (r : Grown) (result scratch result' scratch' : List ℕ) : Type 0 where
+pub record Taken (u : Setup) (k i source target : ℕ) (r : Growth) (result scratch result' scratch' : List ℕ) : Type 0 where
   pub answer : r ≡ grown (room u) (length (set_of (result_sets u result) (follow_at u + target))) (length (joined u k i source target result))
   pub in-result : is_full r ≡ false → Turned k u.w u.b u.rsets (set (result_sets u result) (follow_at u + target) (joined u k i source target result)) result result'
   pub in-scratch : is_full r ≡ false → Turned k u.w u.b u.ssets (set (scratch_sets u scratch) target (joined u k i source target result)) scratch scratch'
@@ -141,9 +140,9 @@ pub record RoundDone (u : Setup) (k : ℕ) (answer : Answer State) (r : Grown) (
   pub told : r ≡ round_told (same_sets new (follow_sets u result))
   pub stands : Stands u k (first_sets u result) new (place_sets u result) result scratch result' scratch'
 
-pub record Rounded (u : Setup) (k : ℕ) (answer : Answer State) (r : Grown) (result scratch result' scratch' : List ℕ) : Type 0 where
-  pub over : is_full r ≡ true → answer ≡ refused 11
-  pub done : is_full r ≡ false → RoundDone u k answer r result scratch result' scratch'
+-- or a set was too large
+pub record Rounded (u : Setup) (k : ℕ) (answer : Answer State) (r : Growth) (result scratch result' scratch' : List ℕ) : Type 0 where
+  pub ends : OrTooLarge r (answer ≡ refused 11) (λ told. RoundDone u k answer told result scratch result' scratch')
   pub result-beyond : past_result u result' ≡ past_result u result
   pub scratch-beyond : past_scratch u scratch' ≡ past_scratch u scratch
 
@@ -156,12 +155,8 @@ pub record EndedWith (u : Setup) (k : ℕ) (answer : Answer Settling) (rounds : 
   pub stands : Stands u k (first_sets u result) sets (place_sets u result) result scratch result' scratch'
 
 -- or it is refusal 11
-abbrev pub EndsBy : Setup → ℕ → Answer Settling → Ending → (result scratch result' scratch' : List ℕ) → Type 0
-EndsBy u k answer (Settled rounds) result scratch result' scratch' = EndedWith u k answer rounds result scratch result' scratch'
-EndsBy u k answer (Refused e) result scratch result' scratch' = (answer ≡ refused 11) × (e ≡ 11)
-
-pub record Ended (u : Setup) (k : ℕ) (answer : Answer Settling) (r : Ending) (result scratch result' scratch' : List ℕ) : Type 0 where
-  pub ends : EndsBy u k answer r result scratch result' scratch'
+pub record Ended (u : Setup) (k : ℕ) (answer : Answer Settling) (r : Result ℕ Refusal) (result scratch result' scratch' : List ℕ) : Type 0 where
+  pub ends : OrTooLarge r (answer ≡ refused 11) (λ rounds. EndedWith u k answer rounds result scratch result' scratch')
   pub result-beyond : past_result u result' ≡ past_result u result
   pub scratch-beyond : past_scratch u scratch' ≡ past_scratch u scratch
 
@@ -174,9 +169,8 @@ pub record PassDone (u : Setup) (k : ℕ) (Good : State → Type 0) (result resu
   pub row : InRow u k (first_sets u result) (follow_sets u result) places result result'
   pub store : IsStored k u.w u.b u.ssets scratch'
 
--- or a set was full, and Over holds
-pub record Passed (u : Setup) (k : ℕ) (Over : Type 0) (Good : State → Type 0) (full : Bool) (result scratch result' scratch' : List ℕ) : Type 0 where
-  pub over : full ≡ true → Over
-  pub done : full ≡ false → PassDone u k Good result result' scratch'
+-- or a set was too large, and Over holds
+pub record Passed (u : Setup) (k : ℕ) (Over : Type 0) (Good : State → Type 0) (r : Result (Unit {0}) Refusal) (result scratch result' scratch' : List ℕ) : Type 0 where
+  pub ends : OrTooLarge r Over (λ _. PassDone u k Good result result' scratch')
   pub result-beyond : past_result u result' ≡ past_result u result
   pub scratch-beyond : past_scratch u scratch' ≡ past_scratch u scratch

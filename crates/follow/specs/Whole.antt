@@ -1,13 +1,12 @@
 -- What the whole work of FOLLOW does to the two lent buffers, by the theory's `follow` and `position_sets`. Assumes nothing.
-use Rattle.std.specs.Prelude.{ℕ, List, ◌≡◌}
+use Rattle.std.specs.Prelude.{ℕ, List, ◌≡◌, Result}
 use Rattle.k_tuples.specs.States.{State}
 use Rattle.k_tuples.specs.Work.{Answer, refused, got, ◌>>=◌, Settling}
 use Rattle.k_tuples.specs.Blocks.{IsStored}
+use Rattle.refusals.specs.declared.Refusal.{Refusal}
 use Rattle.first.specs.declared.Setup.{Setup}
-use Rattle.first.specs.Steps.{past_result, past_scratch, old_sets, room}
+use Rattle.first.specs.Steps.{past_result, past_scratch, old_sets, room, OrTooLarge}
 use Rattle.follow_theory.specs.Follow.{follow, position_sets}
-use Rattle.first.specs.declared.Ending.{Ending}
-use Rattle.first.specs.declared.Ending.TheVariants.{Settled, Refused}
 use Rattle.follow.specs.Suffixes.{Suffixes}
 use Rattle.first.specs.Rounds.{grammar_in}
 use Rattle.follow.specs.Steps.{first_sets, occurrences, InRow}
@@ -30,12 +29,9 @@ pub record FollowDone (u : Setup) (k : ℕ) (words : List ℕ) (rounds : ℕ) (r
   pub row : InRow u k (first_sets u result) sets places result result'
   pub store : IsStored k u.w u.b u.ssets scratch'
 
-abbrev pub FollowEnds : Setup → ℕ → List ℕ → Ending → (result result' scratch' : List ℕ) → Type 0
-FollowEnds u k words (Settled rounds) result result' scratch' = FollowDone u k words rounds result result' scratch'
-FollowEnds u k words (Refused e) result result' scratch' = (follow_of u k words result ≡ refused 11) × (e ≡ 11)
-
-pub record Followed (u : Setup) (k : ℕ) (words : List ℕ) (r : Ending) (result scratch result' scratch' : List ℕ) : Type 0 where
-  pub ends : FollowEnds u k words r result result' scratch'
+-- or it is refusal 11
+pub record Followed (u : Setup) (k : ℕ) (words : List ℕ) (r : Result ℕ Refusal) (result scratch result' scratch' : List ℕ) : Type 0 where
+  pub ends : OrTooLarge r (follow_of u k words result ≡ refused 11) (λ rounds. FollowDone u k words rounds result result' scratch')
   pub result-beyond : past_result u result' ≡ past_result u result
   pub scratch-beyond : past_scratch u scratch' ≡ past_scratch u scratch
 
@@ -51,11 +47,7 @@ pub record PositionsDone (u : Setup) (k : ℕ) (words : List ℕ) (rounds : ℕ)
   pub store : IsStored k u.w u.b u.ssets scratch'
 
 -- or one of the two answers is refusal 11
-abbrev pub PositionEnds : Setup → ℕ → List ℕ → Ending → (result result' scratch' : List ℕ) → Type 0
-PositionEnds u k words (Settled rounds) result result' scratch' = PositionsDone u k words rounds result result' scratch'
-PositionEnds u k words (Refused e) result result' scratch' = ((follow_of u k words result >>= λ end. positions_of u k words result end.sets) ≡ refused 11) × (e ≡ 11)
-
-pub record Positioned (u : Setup) (k : ℕ) (words : List ℕ) (r : Ending) (result scratch result' scratch' : List ℕ) : Type 0 where
-  pub ends : PositionEnds u k words r result result' scratch'
+pub record Positioned (u : Setup) (k : ℕ) (words : List ℕ) (r : Result ℕ Refusal) (result scratch result' scratch' : List ℕ) : Type 0 where
+  pub ends : OrTooLarge r ((follow_of u k words result >>= λ end. positions_of u k words result end.sets) ≡ refused 11) (λ rounds. PositionsDone u k words rounds result result' scratch')
   pub result-beyond : past_result u result' ≡ past_result u result
   pub scratch-beyond : past_scratch u scratch' ≡ past_scratch u scratch

@@ -11,10 +11,8 @@ fn copy_follow(res: &mut [u64], scratch: &[u64], u: Setup)
 {
     let n = u.n;
     let at = n + u.p;
-    let mut i = 0;
-    while i < n {
+    for i in 0..n {
         blocks::copy_block(res, scratch, u.b, u.rsets, u.ssets, i, at + i);
-        i += 1;
     }
 }
 

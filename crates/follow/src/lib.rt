@@ -17,31 +17,37 @@ use crate::begin::start_follow;
 use crate::place::make_positions;
 use crate::round::follow_rounds;
 use crate::suffix::make_suffixes;
-use first::{Ending, Setup};
+use first::Setup;
+use refusals::Refusal;
 
-// FOLLOW of the nonterminals. The positions keep their suffix sets.
-fn follow_sets(res: &mut [u64], scratch: &mut [u64], u: Setup, k: u64, words: &[u16]) -> Ending
+// FOLLOW of the nonterminals, and how many rounds it took. The positions keep their suffix sets.
+fn follow_sets(
+    res: &mut [u64],
+    scratch: &mut [u64],
+    u: Setup,
+    k: u64,
+    words: &[u16],
+) -> Result<u64, Refusal>
     requires { Ready u k res.old scratch.old × Grammatical u words.now }
     ensures { Followed u k words.now result res.old scratch.old res.new scratch.new }
 {
-    if make_suffixes(res, scratch, u, k, words) {
-        return Ending::Refused(11);
-    }
+    make_suffixes(res, scratch, u, k, words)?;
     start_follow(res, scratch, u, k);
     follow_rounds(res, scratch, u, k, words)
 }
 
-// FOLLOW of the nonterminals, and then the sets of the positions.
-pub fn follow_all(res: &mut [u64], scratch: &mut [u64], u: Setup, k: u64, words: &[u16]) -> Ending
+// FOLLOW of the nonterminals, and then the sets of the positions. Tells the rounds of FOLLOW.
+pub fn follow_all(
+    res: &mut [u64],
+    scratch: &mut [u64],
+    u: Setup,
+    k: u64,
+    words: &[u16],
+) -> Result<u64, Refusal>
     requires { Ready u k res.old scratch.old × Grammatical u words.now }
     ensures { Positioned u k words.now result res.old scratch.old res.new scratch.new }
 {
-    let ending = follow_sets(res, scratch, u, k, words);
-    let Ending::Settled(rounds) = ending else {
-        return ending;
-    };
-    if make_positions(res, scratch, u, k, words) {
-        return Ending::Refused(11);
-    }
-    Ending::Settled(rounds)
+    let rounds = follow_sets(res, scratch, u, k, words)?;
+    make_positions(res, scratch, u, k, words)?;
+    Ok(rounds)
 }

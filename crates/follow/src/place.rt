@@ -8,23 +8,29 @@ ghost use Rattle.follow_theory.specs.Follow.{position_sets};
 ghost use Rattle.follow.specs.Steps.{Suffixed, Passed, occurrences, follow_sets};
 
 use crate::walk::{next, start};
+use blocks::{block, copy_block, join_into};
 use first::Setup;
-use k_tuples::set::{Grown, is_full};
+use k_tuples::set::Grown;
+use refusals::Refusal;
 
 // Joins set at of the result with set from, in the scratch.
-fn join_sets(scratch: &mut [u64], res: &[u64], u: Setup, at: usize, k: u64, from: usize) -> Grown
+fn join_sets(
+    scratch: &mut [u64],
+    res: &[u64],
+    u: Setup,
+    at: usize,
+    k: u64,
+    from: usize,
+) -> Result<Grown, Refusal>
     requires { Ready u k res.now scratch.old × ((at < u.rsets) × (from < u.rsets)) }
     ensures { InWork u k u.n 0 (join_sets k (set_of (result_sets u res.now) at) (set_of (result_sets u res.now) from)) result scratch.old scratch.new }
 {
-    let b = u.b;
-    let x = at * b;
-    let x_end = x + b;
-    let y = from * b;
-    let y_end = y + b;
-    blocks::join_into(scratch, &res[x..x_end], &res[y..y_end], b, u.ssets, u.n, k)
+    let x = block(res, u.b, at);
+    let y = block(res, u.b, from);
+    join_into(scratch, x, y, u.b, u.ssets, u.n, k)
 }
 
-// Makes set at of the result its join with set from. Says whether that was too large.
+// Makes set at of the result its join with set from. Refuses one that is too large.
 fn take_position(
     res: &mut [u64],
     scratch: &mut [u64],
@@ -32,19 +38,23 @@ fn take_position(
     at: usize,
     k: u64,
     from: usize,
-) -> bool
+) -> Result<(), Refusal>
     requires { Ready u k res.old scratch.old × ((at < u.rsets) × (from < u.rsets)) }
     ensures { Made u at k (within (room u) (join_sets k (set_of (result_sets u res.old) at) (set_of (result_sets u res.old) from))) result res.old scratch.old res.new scratch.new }
 {
-    if is_full(join_sets(scratch, res, u, at, k, from)) {
-        return true;
-    }
-    blocks::copy_block(res, scratch, u.b, u.rsets, u.ssets, u.n, at);
-    false
+    join_sets(scratch, res, u, at, k, from)?;
+    copy_block(res, scratch, u.b, u.rsets, u.ssets, u.n, at);
+    Ok(())
 }
 
-// Makes the set of each position, a suffix set so far, its equation's join with the FOLLOW sets. Says whether a set was too large.
-pub fn make_positions(res: &mut [u64], scratch: &mut [u64], u: Setup, k: u64, words: &[u16]) -> bool
+// Makes the set of each position, a suffix set so far, its equation's join with the FOLLOW sets. Refuses a set that is too large.
+pub fn make_positions(
+    res: &mut [u64],
+    scratch: &mut [u64],
+    u: Setup,
+    k: u64,
+    words: &[u16],
+) -> Result<(), Refusal>
     requires { Ready u k res.old scratch.old × Suffixed u k words.now res.old }
     ensures { Passed u k (position_sets (room u) k (old_sets u res.old) (occurrences u words.now) (follow_sets u res.old) ≡ refused 11) (λ Z. position_sets (room u) k (old_sets u res.old) (occurrences u words.now) (follow_sets u res.old) ≡ got Z) result res.old scratch.old res.new scratch.new }
 {
@@ -52,14 +62,10 @@ pub fn make_positions(res: &mut [u64], scratch: &mut [u64], u: Setup, k: u64, wo
     let places = follow + u.n;
     let q = u.rsets - places;
     let mut w = start(u.p);
-    let mut i = 0;
-    while i < q {
+    for i in 0..q {
         w = next(words, w);
         let from = follow + w.source;
-        if take_position(res, scratch, u, places + i, k, from) {
-            return true;
-        }
-        i += 1;
+        take_position(res, scratch, u, places + i, k, from)?;
     }
-    false
+    Ok(())
 }

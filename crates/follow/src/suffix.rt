@@ -10,24 +10,25 @@ ghost use Rattle.follow.specs.Steps.{Grammatical, Passed, occurrences};
 use crate::walk::{next, start};
 use first::Setup;
 use first::right::first_of_right_side;
+use refusals::Refusal;
 
-// Makes the set of each position FIRST(β). Says whether a set was too large.
-pub fn make_suffixes(res: &mut [u64], scratch: &mut [u64], u: Setup, k: u64, words: &[u16]) -> bool
+// Makes the set of each position FIRST(β). Refuses a set that is too large.
+pub fn make_suffixes(
+    res: &mut [u64],
+    scratch: &mut [u64],
+    u: Setup,
+    k: u64,
+    words: &[u16],
+) -> Result<(), Refusal>
     requires { Ready u k res.old scratch.old × Grammatical u words.now }
     ensures { Passed u k (follow (room u) k (grammar_in u words.now) (old_sets u res.old) ≡ refused 11) (Suffixes (room u) k (old_sets u res.old) (occurrences u words.now)) result res.old scratch.old res.new scratch.new }
 {
     let places = u.n + u.p + u.n;
     let q = u.rsets - places;
     let mut w = start(u.p);
-    let mut i = 0;
-    while i < q {
+    for i in 0..q {
         w = next(words, w);
-        let at = w.at;
-        let end = w.end;
-        if first_of_right_side(res, scratch, u, places + i, k, &words[at..end]) {
-            return true;
-        }
-        i += 1;
+        first_of_right_side(res, scratch, u, places + i, k, &words[w.at..w.end])?;
     }
-    false
+    Ok(())
 }

@@ -3,7 +3,6 @@ ghost use Rattle.std.specs.Prelude.{◌≤◌, ◌≡◌, length};
 ghost use Rattle.follow.specs.Walk.{Goes, Met, to_come, start_of};
 
 use cfg::table::span_at;
-use cfg::wide;
 
 // A place on the way. The symbols from at to end are left of a right side, whose left side is source, and so many productions stand behind
 // them. The nonterminal that was met last is target.
@@ -47,7 +46,7 @@ pub fn next(words: &[u16], w: Walk) -> Walk
                     at: at,
                     end: end,
                     source: source,
-                    target: wide(code / 2),
+                    target: usize::from(code / 2),
                     behind: behind,
                 };
             }
@@ -55,7 +54,7 @@ pub fn next(words: &[u16], w: Walk) -> Walk
             let span = span_at(words, end);
             at = span.from;
             end = span.to;
-            source = wide(span.left);
+            source = usize::from(span.left);
             behind -= 1;
         }
     }

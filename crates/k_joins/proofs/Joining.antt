@@ -10,9 +10,8 @@ use native.Mathlib.Omega.{arith}
 use native.Mathlib.Nat.{le_refl}
 use native.Mathlib.Decide.{dec_le}
 use lib.Seq.{take_all}
-use borrow.Author.Tests.{le-leb, leb-true}
-use lib.Dec.{leb}
-use lib.ListN.{length, get_or, take, drop, replicate, length-map, get_or-map}
+use borrow.Author.Tests.{le-leb}
+use lib.ListN.{length, get_or, take, drop, length-map, get_or-map}
 use Rattle.k_tuple.specs.Strings.{Str, eps, slots, good, terminals, is_eps, length_of, well_formed, complete, count_field, width_field}
 use Rattle.k_tuple.specs.Packed.{WellFormed, Alike, packed, number_of, reads, width_in, eps_in, complete_in}
 use Rattle.k_tuple.specs.declared.Terminals.{Terminals}
@@ -20,10 +19,13 @@ use Rattle.k_tuple.proofs.Closed.{reads-packed}
 use Rattle.k_tuple.proofs.Held.{seen, itself, width-le}
 use Rattle.k_tuple.proofs.Round.{fine, decode-good}
 use Rattle.k_tuples.specs.declared.set.Grown.{Grown}
-use Rattle.k_tuples.specs.declared.set.Grown.TheVariants.{Same, Full}
+use Rattle.k_tuples.specs.declared.set.Grown.TheVariants.{Same}
+use Rattle.refusals.specs.declared.Refusal.{Refusal}
+use Rattle.std.specs.Prelude.{Result, Ok, Err}
+use Rattle.std.proofs.lemmas.List.{take-map}
 use Rattle.k_tuples.specs.Sets.{◌∈◌, ◌⊆◌, Sorted, in_order, member}
 use Rattle.k_tuples.specs.Members.{before, rising, add_all, has_of, pairs_of}
-use Rattle.k_tuples.specs.Words.{member_at, decode, IsSet, Grew, AllWellFormed, AllJoinable, is_full}
+use Rattle.k_tuples.specs.Words.{Growth, member_at, decode, IsSet, Grew, AllWellFormed, AllJoinable}
 use Rattle.k_tuples.specs.Held.{str_in, strings, first_width}
 use Rattle.k_tuples.proofs.Joins.{incomplete-short}
 use Rattle.k_tuples.proofs.Tests.{passed}
@@ -33,21 +35,15 @@ use Rattle.k_tuples.proofs.Sorted.{cases, place-member, in_order-means, sorted-p
 use Rattle.k_tuples.proofs.Words.{length-decode, get_d-decode, rest-member}
 use Rattle.k_tuples.proofs.Inserting.{grew-idle}
 use Rattle.k_tuples.proofs.Lists.{map-drop}
-use Rattle.k_tuples.proofs.Unfinished.{before-length}
+use Rattle.k_tuples.proofs.Unfinished.{before-length, drop-member}
 use Rattle.k_tuples.proofs.Bridge.{AllWell, less-packed, has-member}
 use Rattle.k_joins.specs.Runs.{cut_set}
-use Rattle.k_joins.specs.Parts.{between, cuts_of, keeps_of, run_of, meets_of, lefts_of, has_eps, stay_of, second_of, OfStrings, Joining, InClass, ClassEnd, AllPairs, BlankCut, Gathered, PartStep, SizesTold}
-use Rattle.k_joins.specs.declared.runs.Next.{Next}
+use Rattle.k_joins.specs.Parts.{between, cuts_of, keeps_of, run_of, meets_of, lefts_of, has_eps, stay_of, second_of, OfStrings, Joining, InClass, ClassEnd, AllPairs, Gathered, on_at, PartStep, SizesTold}
 use Rattle.k_joins.proofs.Classes.{not-both, Some, cut_set-sorted, cut_set-plain}
 use Rattle.k_joins.proofs.Meeting.{Class, class-lefts, left-none, cut_set-packed, cut_set-well, cut_set-size, run-rises, run-meets, parts_join}
-use Rattle.k_joins.proofs.Running.{between_more, between_none, its-left, part-more, part-full, Steps, steps-start, steps-more, steps-full}
+use Rattle.k_joins.proofs.Running.{between_more, between_none, its-left, went_on, stayed, part-more, part-full, Steps, steps-start, steps-more, steps-full}
 
 -- ---- lists
-
-map-take : {A B : Type 0} (f : A → B) (i : ℕ) (l : List A) → take i (map f l) ≡ map f (take i l)
-map-take f zero l = refl
-map-take f (suc i) [] = refl
-map-take {B = B} f (suc i) (x ∷ l) = ap (λ (r : List B). f x ∷ r) (map-take f i l)
 
 -- what is in a part is in the whole
 in_take : (n : ℕ) (a : List Str) → take n a ⊆ a
@@ -56,13 +52,8 @@ in_take (suc n) [] x m = absurd (not-nil m)
 in_take (suc n) (y ∷ a) x (here e) = here e
 in_take (suc n) (y ∷ a) x (there m) = there (in_take n a x m)
 
-in-drop : (n : ℕ) (a : List Str) → drop n a ⊆ a
-in-drop zero a x m = m
-in-drop (suc n) [] x m = m
-in-drop (suc n) (y ∷ a) x m = there (in-drop n a x m)
-
 in-part : (i e : ℕ) (a : List Str) → drop i (take e a) ⊆ a
-in-part i e a x m = in_take e a x (in-drop i (take e a) x m)
+in-part i e a x m = in_take e a x (drop-member i (take e a) m)
 
 take-sorted : (n : ℕ) (a : List Str) → Sorted a → Sorted (take n a)
 take-sorted zero a h = tt
@@ -83,8 +74,8 @@ pub record At (i e : ℕ) (a : List Str) (x : Str) : Type 0 where
   pub is : x ≡ get_or a place eps
 
 placed : (i e : ℕ) (a : List Str) (x : Str) → x ∈ drop i (take e a) → At i e a x
-placed i zero a x m = absurd (not-nil (in-drop i [] x m))
-placed i (suc e) [] x m = absurd (not-nil (in-drop i [] x m))
+placed i zero a x m = absurd (not-nil (drop-member i [] m))
+placed i (suc e) [] x m = absurd (not-nil (drop-member i [] m))
 placed zero (suc e) (y ∷ a) x (here s) = record { place = 0; from = omega arith; to = omega arith; within = omega arith; is = s }
 placed zero (suc e) (y ∷ a) x (there m) =
     let p = placed zero e a x m in
@@ -113,7 +104,7 @@ module _ {w : ℕ} {a : List Str} {ws : List ℕ} (h : OfStrings w a ws) where
   member-reads i l = ap reads (member_is i l) ∙ reads-packed w (get_or a i eps) (h.well (get_or a i eps) (string-in i l))
 
   between_is : (i e : ℕ) → between i e ws ≡ map (packed w) (drop i (take e a))
-  between_is i e = ap (λ (l : List Terminals). drop i (take e l)) h.is ∙ ap (drop i) (map-take (packed w) e a) ∙ map-drop (packed w) i (take e a)
+  between_is i e = ap (λ (l : List Terminals). drop i (take e l)) h.is ∙ ap (drop i) (take-map (packed w) e a) ∙ map-drop (packed w) i (take e a)
 
   part-well : (i e : ℕ) → AllWell w (drop i (take e a))
   part-well i e z m = h.well z (in-part i e a z m)
@@ -143,20 +134,6 @@ module _ {v : ℕ} {t : Terminals} (ws : List ℕ) (some : 0 < length (decode ws
   eps-asked {e} {r} f g =
       let first : first_width (decode ws) ≡ v = ap first_width (rest-member ws 0 (omega (arith, length-decode ws))) ∙ sym (wide ∙ ap (λ (u : Terminals). width_field (number_of u)) at) in
       g ∙ ap (λ (u : Terminals). has_of u (decode ws)) (f ∙ ap (λ (u : ℕ). packed u eps) (sym first))
-
--- ---- the least and the greatest number of slots
-
-pub sizes-none : {k : ℕ} {ys : List ℕ} → SizesTold k ys false
-sizes-none = record { least = λ e. absurd (not-both e refl); most = λ e. absurd (not-both e refl) }
-
-module _ {k n : ℕ} {t u : Terminals} {r : Bool} (ys : List ℕ) where
-  pub sizes-told : {p q : ℕ} → t ≡ member_at ys (2 * 0 + 1) → p ≡ count_field (number_of t) → (p ≡ 0 → ⊥) → n ≡ length (decode ys) → u ≡ member_at ys (2 * (n - 1) + 1) → q ≡ count_field (number_of u)
-      → r ≡ leb q k → SizesTold k ys r
-  sizes-told {p} {q} at c z e at' c' h = record {
-    least = λ _. let s : p ≡ count_field (number_of (member_at ys 1)) = c ∙ ap (λ (x : Terminals). count_field (number_of x)) at in omega arith;
-    most = λ b. let s : q ≡ count_field (number_of (member_at ys (2 * (length (decode ys) - 1) + 1))) = c' ∙ ap (λ (x : Terminals). count_field (number_of x)) (at' ∙ ap (λ (m : ℕ). member_at ys (2 * (m - 1) + 1)) e) in
-        omega (arith, leb-true q k (sym h ∙ b));
-  }
 
 -- ---- one class
 
@@ -265,12 +242,9 @@ module _ {k l i e : ℕ} {xs ys : List ℕ} (j : Joining k xs ys) (c : ClassEnd 
         ∙ run-meets k w l X Y j.some j.short class-less X-well Y-well X-class Y-some s
         ∙ sym (ap₂ (λ (q r : List Terminals). add_all (meets_of k q r) s) X-is Y-is)
 
-    pub chunk-grew : {out exit : List ℕ} {r : Grown} → Grew out exit (add_all (run_of k (between i e xs) (decode d)) (decode out)) r
+    pub chunk-grew : {out exit : List ℕ} {r : Growth} → Grew out exit (add_all (run_of k (between i e xs) (decode d)) (decode out)) r
         → Grew out exit (add_all (meets_of k (between i e xs) (between p f ys)) (decode out)) r
     chunk-grew {out} {exit} {r} h = subst (λ (v : List Terminals). Grew out exit v r) (chunk-meets (decode out)) h
-
-    pub chunk-cleared : {ws : List ℕ} → ws ≡ replicate (length d) 0 → BlankCut ws
-    chunk-cleared z = z ∙ ap (λ (n : ℕ). replicate n 0) g.as_long
 
 -- ---- the whole
 
@@ -297,38 +271,29 @@ module _ {k : ℕ} {xs ys : List ℕ} (j : Joining k xs ys) where
 
 -- a member that is complete or ε has nothing left
 module _ {k i : ℕ} {x : Terminals} {xs ys ws : List ℕ} (at : x ≡ member_at xs (2 * i + 1)) (h : i < length (decode xs)) (s : IsSet ws) where
-  idle-step : (complete_in k (reads x) || eps_in (reads x)) ≡ true → PartStep k xs ys i (record { full = false; at = i + 1 }) ws ws
+  idle-step : (complete_in k (reads x) || eps_in (reads x)) ≡ true → PartStep k xs ys i (Ok (i + 1)) ws ws
   unfolding add_all
   idle-step e =
       let one : between i (i + 1) xs ≡ x ∷ [] = between_more i xs (omega arith) h ∙ ap₂ (λ (l : List Terminals) (u : Terminals). l ++ u ∷ []) (between_none i xs) (sym at) in
       let none : lefts_of k (between i (i + 1) xs) (decode ys) ≡ [] = ap (λ (l : List Terminals). lefts_of k l (decode ys)) one ∙ left-none k 0 x (decode ys) e in
       record {
-        told = Same;
+        told = Ok Same;
+        at = _;
+        is = refl;
         more = omega arith;
         within = omega arith;
-        full = refl;
         grew = rw none (grew-idle s);
       }
 
-  pub complete-step : {t : Bool} → t ≡ complete_in k (reads x) → t ≡ true → PartStep k xs ys i (record { full = false; at = i + 1 }) ws ws
+  pub complete-step : {t : Bool} → t ≡ complete_in k (reads x) → t ≡ true → PartStep k xs ys i (Ok (i + 1)) ws ws
   complete-step e f = idle-step (rw (sym e ∙ f))
 
-  pub eps-step : {t : Bool} → t ≡ eps_in (reads x) → t ≡ true → PartStep k xs ys i (record { full = false; at = i + 1 }) ws ws
+  pub eps-step : {t : Bool} → t ≡ eps_in (reads x) → t ≡ true → PartStep k xs ys i (Ok (i + 1)) ws ws
   eps-step e f = idle-step (rw (sym e ∙ f, or-true))
 
 -- ---- what a join begins with
 
-module _ {out exit : List ℕ} {t : Bool} {g : Grown} (xs ys : List ℕ) where
-  pub stay_all : (k : ℕ) → t ≡ has_eps (decode ys) → t ≡ true → Grew out exit (add_all (decode xs) (decode out)) g → Grew out exit (add_all (stay_of k (decode xs) (decode ys)) (decode out)) g
-  stay_all k e f h = rw (sym e ∙ f) h
-
-  pub stay-kept : (k : ℕ) → t ≡ has_eps (decode ys) → t ≡ false → Grew out exit (add_all (keeps_of k (decode xs)) (decode out)) g → Grew out exit (add_all (stay_of k (decode xs) (decode ys)) (decode out)) g
-  stay-kept k e f h = rw (sym e ∙ f) h
-
-  pub second-all : t ≡ has_eps (decode xs) → t ≡ true → Grew out exit (add_all (decode ys) (decode out)) g → Grew out exit (add_all (second_of (decode xs) (decode ys)) (decode out)) g
-  second-all e f h = rw (sym e ∙ f) h
-
-pub second_none : {out : List ℕ} {t : Bool} (xs ys : List ℕ) → t ≡ has_eps (decode xs) → t ≡ false → IsSet out → Grew out out (add_all (second_of (decode xs) (decode ys)) (decode out)) Same
+pub second_none : {out : List ℕ} {t : Bool} (xs ys : List ℕ) → t ≡ has_eps (decode xs) → t ≡ false → IsSet out → Grew out out (add_all (second_of (decode xs) (decode ys)) (decode out)) (Ok Same)
 unfolding add_all
 second_none xs ys e f s = rw (sym e ∙ f) (grew-idle s)
 
@@ -337,24 +302,24 @@ second_none xs ys e f s = rw (sym e ∙ f) (grew-idle s)
 pub well-here : {k i : ℕ} {x : Terminals} {xs ys : List ℕ} → Joining k xs ys → x ≡ member_at xs (2 * i + 1) → i < length (decode xs) → WellFormed x
 well-here {i = i} {xs = xs} j at h = subst WellFormed (sym at) (first-formed j i (omega (arith, length-decode xs)))
 
-pub class-here : {k : ℕ} {x : Terminals} {c e : Bool} → c ≡ complete_in k (reads x) → c ≡ false → e ≡ eps_in (reads x) → e ≡ false → InClass k (count_field (number_of x)) x
-class-here c d e f = record { slots = refl; unended = sym c ∙ d; plain = sym e ∙ f }
-
 pub class-at : (k l i : ℕ) (x : Terminals) (xs : List ℕ) → x ≡ member_at xs (2 * i + 1) → l ≡ count_field (number_of x) → InClass k (count_field (number_of x)) x → InClass k l (member_at xs (2 * i + 1))
 class-at k l i x xs at e c = subst (InClass k l) at (subst (λ (n : ℕ). InClass k n x) (sym e) c)
 
-pub class-step : {k l i e : ℕ} {xs ys out exit : List ℕ} {g : Grown} {full : Bool} → Joining k xs ys → ClassEnd k l xs i e → Grew out exit (add_all (meets_of k (between i e xs) (decode ys)) (decode out)) g → full ≡ is_full g
-    → PartStep k xs ys i (record { full = full; at = e }) out exit
+pub class-step : {k l i e : ℕ} {xs ys out exit : List ℕ} {g : Growth} {s : Result ℕ Refusal} → Joining k xs ys → ClassEnd k l xs i e → Grew out exit (add_all (meets_of k (between i e xs) (decode ys)) (decode out)) g → s ≡ on_at e g
+    → PartStep k xs ys i s out exit
 class-step {k} {l} {i} {e} {xs} {ys} {out} {exit} {g} j c h t =
-    record { told = g; more = c.more; within = c.within; full = t; grew = subst (λ (v : List Terminals). Grew out exit v g) (class-left j c (decode out)) h }
+    record { told = g; at = e; is = t; more = c.more; within = c.within; grew = subst (λ (v : List Terminals). Grew out exit v g) (class-left j c (decode out)) h }
 
 -- the set that takes what is left
-module _ {k n old i : ℕ} {s : Next} {xs ys entry out exit : List ℕ} {goal : List Terminals} (h : Filling (its-left k (decode ys)) xs entry goal n old i out) (p : PartStep k xs ys i s out exit) where
-  pub left-taken : s.full ≡ false → Filling (its-left k (decode ys)) xs entry goal n old s.at exit
-  left-taken = let more = p.more in part-more h (omega arith) p.within _ refl p.grew p.full
+module _ {k n old i : ℕ} {s : Result ℕ Refusal} {xs ys entry out exit : List ℕ} {goal : List Terminals} (h : Filling (its-left k (decode ys)) xs entry goal n old i out) (p : PartStep k xs ys i s out exit) where
+  pub left-taken : {a : ℕ} → s ≡ Ok a → (i < a) × Filling (its-left k (decode ys)) xs entry goal n old a exit
+  left-taken {a} t =
+      let more = p.more in
+      let g = went_on (sym p.is ∙ t) in
+      subst (λ (v : ℕ). (i < v) × Filling (its-left k (decode ys)) xs entry goal n old v exit) g.same (more, part-more h (omega arith) p.within _ refl p.grew g.is)
 
-  pub left-full : s.full ≡ true → Grew entry exit goal Full
-  left-full = let more = p.more in part-full h (omega arith) p.within _ refl p.grew p.full
+  pub left-full : {x : Refusal} {q : Growth} → s ≡ Err x → q ≡ Err x → Grew entry exit goal q
+  left-full t = let more = p.more in part-full h (omega arith) p.within _ refl p.grew (stayed p.at (sym p.is ∙ t))
 
 -- ---- the lists in turn
 
@@ -366,34 +331,42 @@ all-parts {k} {xs} {ys} j u =
     let r = lefts_of k (decode xs) (decode ys) in
     add_all-append p (q ++ (r ++ [])) u ∙ add_all-append q (r ++ []) (add_all p u) ∙ ap (λ (l : List Terminals). add_all l (add_all q (add_all p u))) (append-nil r) ∙ join-parts j u
 
+-- what is still to come behind what stays, and behind the second set
+abbrev pub second_on : ℕ → List ℕ → List ℕ → List Terminals
+second_on k xs ys = second_of (decode xs) (decode ys) ++ (lefts_of k (decode xs) (decode ys) ++ [])
+
+abbrev pub left_on : ℕ → List ℕ → List ℕ → List Terminals
+left_on k xs ys = lefts_of k (decode xs) (decode ys) ++ []
+
+-- the join on its way into words that were `entry`
+abbrev pub ToJoin : (k old : ℕ) (xs ys entry : List ℕ) → List Terminals → List ℕ → Type 0
+ToJoin k old xs ys entry rest ws = Steps entry (add_all (pairs_of k (decode xs) (decode ys)) (decode entry)) old rest ws
+
 -- each of them in its turn
-module _ {k old : ℕ} {xs ys entry exit : List ℕ} {r : Grown} {full : Bool} (j : Joining k xs ys) where
-  module _ (s : IsSet entry) (had : old ≡ length (decode entry)) (g : Grew entry exit (add_all (stay_of k (decode xs) (decode ys)) (decode entry)) r) (told : full ≡ is_full r) where
-    begun : Steps entry (add_all (pairs_of k (decode xs) (decode ys)) (decode entry)) old (stay_of k (decode xs) (decode ys) ++ (second_of (decode xs) (decode ys) ++ (lefts_of k (decode xs) (decode ys) ++ []))) entry
+module _ {k old : ℕ} {xs ys entry exit : List ℕ} {r : Growth} (j : Joining k xs ys) where
+  module _ (s : IsSet entry) (had : old ≡ length (decode entry)) (g : Grew entry exit (add_all (stay_of k (decode xs) (decode ys)) (decode entry)) r) where
+    begun : ToJoin k old xs ys entry (stay_of k (decode xs) (decode ys) ++ second_on k xs ys) entry
     begun = steps-start _ s had (all-parts j (decode entry))
 
-    pub stay-more : full ≡ false
-        → Steps entry (add_all (pairs_of k (decode xs) (decode ys)) (decode entry)) old (second_of (decode xs) (decode ys) ++ (lefts_of k (decode xs) (decode ys) ++ [])) exit
-    stay-more = steps-more (stay_of k (decode xs) (decode ys)) (second_of (decode xs) (decode ys) ++ (lefts_of k (decode xs) (decode ys) ++ [])) begun g told
+    pub stay-more : {t : Grown} → r ≡ Ok t → ToJoin k old xs ys entry (second_on k xs ys) exit
+    stay-more = steps-more (stay_of k (decode xs) (decode ys)) (second_on k xs ys) begun g
 
-    pub stay-full : full ≡ true → Grew entry exit (add_all (pairs_of k (decode xs) (decode ys)) (decode entry)) Full
-    stay-full = steps-full (stay_of k (decode xs) (decode ys)) (second_of (decode xs) (decode ys) ++ (lefts_of k (decode xs) (decode ys) ++ [])) begun g told
+    pub stay-full : {x : Refusal} {u : Growth} → r ≡ Err x → u ≡ Err x → Grew entry exit (add_all (pairs_of k (decode xs) (decode ys)) (decode entry)) u
+    stay-full = steps-full (stay_of k (decode xs) (decode ys)) (second_on k xs ys) begun g
 
-  module _ {ws : List ℕ} (s : Steps entry (add_all (pairs_of k (decode xs) (decode ys)) (decode entry)) old (second_of (decode xs) (decode ys) ++ (lefts_of k (decode xs) (decode ys) ++ [])) ws)
-      (g : Grew ws exit (add_all (second_of (decode xs) (decode ys)) (decode ws)) r) (told : full ≡ is_full r) where
-    pub second_more : full ≡ false → Steps entry (add_all (pairs_of k (decode xs) (decode ys)) (decode entry)) old (lefts_of k (decode xs) (decode ys) ++ []) exit
-    second_more = steps-more (second_of (decode xs) (decode ys)) (lefts_of k (decode xs) (decode ys) ++ []) s g told
+  module _ {ws : List ℕ} (s : ToJoin k old xs ys entry (second_on k xs ys) ws) (g : Grew ws exit (add_all (second_of (decode xs) (decode ys)) (decode ws)) r) where
+    pub second_more : {t : Grown} → r ≡ Ok t → ToJoin k old xs ys entry (left_on k xs ys) exit
+    second_more = steps-more (second_of (decode xs) (decode ys)) (left_on k xs ys) s g
 
-    pub second-full : full ≡ true → Grew entry exit (add_all (pairs_of k (decode xs) (decode ys)) (decode entry)) Full
-    second-full = steps-full (second_of (decode xs) (decode ys)) (lefts_of k (decode xs) (decode ys) ++ []) s g told
+    pub second-full : {x : Refusal} {u : Growth} → r ≡ Err x → u ≡ Err x → Grew entry exit (add_all (pairs_of k (decode xs) (decode ys)) (decode entry)) u
+    second-full = steps-full (second_of (decode xs) (decode ys)) (left_on k xs ys) s g
 
-  module _ {ws : List ℕ} (s : Steps entry (add_all (pairs_of k (decode xs) (decode ys)) (decode entry)) old (lefts_of k (decode xs) (decode ys) ++ []) ws)
-      (g : Grew ws exit (add_all (lefts_of k (decode xs) (decode ys)) (decode ws)) r) (told : full ≡ is_full r) where
-    pub last_more : full ≡ false → Steps entry (add_all (pairs_of k (decode xs) (decode ys)) (decode entry)) old [] exit
-    last_more = steps-more (lefts_of k (decode xs) (decode ys)) [] s g told
+  module _ {ws : List ℕ} (s : ToJoin k old xs ys entry (left_on k xs ys) ws) (g : Grew ws exit (add_all (lefts_of k (decode xs) (decode ys)) (decode ws)) r) where
+    pub last_more : {t : Grown} → r ≡ Ok t → ToJoin k old xs ys entry [] exit
+    last_more = steps-more (lefts_of k (decode xs) (decode ys)) [] s g
 
-    pub last-full : full ≡ true → Grew entry exit (add_all (pairs_of k (decode xs) (decode ys)) (decode entry)) Full
-    last-full = steps-full (lefts_of k (decode xs) (decode ys)) [] s g told
+    pub last-full : {x : Refusal} {u : Growth} → r ≡ Err x → u ≡ Err x → Grew entry exit (add_all (pairs_of k (decode xs) (decode ys)) (decode entry)) u
+    last-full = steps-full (lefts_of k (decode xs) (decode ys)) [] s g
 
 -- ---- what the contract of a join gives
 
@@ -419,7 +392,7 @@ long-none k w (z ∷ l) ts f h =
 
 -- from a member of k slots on, none has anything left
 pub long-step : {k i n l : ℕ} {x : Terminals} {xs ys ws : List ℕ} → Joining k xs ys → x ≡ member_at xs (2 * i + 1) → i < length (decode xs) → IsSet ws → l ≡ count_field (number_of x) → k ≤ l → n ≡ length (decode xs)
-    → PartStep k xs ys i (record { full = false; at = n }) ws ws
+    → PartStep k xs ys i (Ok n) ws ws
 unfolding add_all
 long-step {k} {i} {n} {l} {x} {xs} {ys} {ws} j at h s count long whole =
     let w = j.width in
@@ -434,10 +407,11 @@ long-step {k} {i} {n} {l} {x} {xs} {ys} {ws} j at h s count long whole =
     let longer = lengths-rise a j.first.sorted i p.place p.from p.within in
     subst (λ (v : Str). k ≤ length_of v) (sym p.is) (omega arith)) in
     record {
-      told = Same;
+      told = Ok Same;
+      at = _;
+      is = refl;
       more = omega arith;
       within = omega arith;
-      full = refl;
       grew = rw none (grew-idle s);
     }
 

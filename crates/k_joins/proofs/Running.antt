@@ -1,11 +1,10 @@
 -- The loops of src/runs.rt: rows and runs that are written, parts of a set that are gathered, and a set that takes a part of another at a time. Assumes nothing.
 use mathlib.Core.Path.{◌≡◌, refl, sym, ap, ap₂, ◌∙◌, subst}
 use mathlib.Core.Bool.{Bool, true, false, cond}
-use mathlib.Core.List.{List, [], ◌∷◌, ◌++◌, map, append_assoc, append-nil}
+use mathlib.Core.List.{List, [], ◌∷◌, ◌++◌, append_assoc, append-nil}
 use Prim.Native.Nat.{ℕ, ◌+◌, ◌-◌, ◌*◌, ◌%◌, ◌^◌, ◌≤◌, ◌<◌}
 use native.Mathlib.Nat.{mod-eq_of_lt, min-eq_right, min-le_left}
 use native.Mathlib.Omega.{arith}
-use native.Mathlib.Decide.{dec_le}
 use lib.ListN.{length, take, drop, set, replicate, length-append, length-drop, length-map, length-take, length-replicate, drop_of_length-le, take-append-drop}
 use lib.Seq.{take-add, drop-append-le, length-take-le}
 use Rattle.k_tuple.specs.declared.Terminals.{Terminals}
@@ -15,15 +14,18 @@ use Rattle.k_tuple.proofs.Append.{Parts, room-left, grows}
 use Rattle.k_tuple.proofs.Held.{seen, length-is, slots-are, plain-stored}
 use Rattle.k_tuple.proofs.Round.{stored-lt}
 use Rattle.k_tuples.specs.declared.set.Grown.{Grown}
-use Rattle.k_tuples.specs.declared.set.Grown.TheVariants.{Same, Full}
+use Rattle.k_tuples.specs.declared.set.Grown.TheVariants.{Same}
+use Rattle.refusals.specs.declared.Refusal.{Refusal}
+use Rattle.std.specs.Prelude.{Result, Ok, Err}
+use Rattle.std.proofs.lemmas.List.{map-append}
 use Rattle.k_tuples.specs.Members.{before, rising, adding, add_all}
-use Rattle.k_tuples.specs.Words.{count_word, number_in, member_at, encode, decode, room_of, IsSet, Grew, grown_from, is_full}
+use Rattle.k_tuples.specs.Words.{count_word, number_in, member_at, encode, decode, room_of, Growth, IsSet, Grew, grown_from, is_full}
 use Rattle.k_tuples.specs.Cores.{with_gap}
 use Rattle.k_tuples.proofs.Rising.{both, rising-add_all, length-add_all, add_all-append}
 use Rattle.k_tuples.proofs.Words.{words-room, length-decode, rest-member, set-some, set-within, decode-encode, length-encode, encode-is-set, encode-none, zeros-set}
 use Rattle.k_tuples.proofs.Inserting.{grown-full, grew-idle, gap-encode}
 use Rattle.k_tuples.proofs.Filling.{Way, Filling, grown-fits, grew-over, grew-length, grew-decode, grew-number, grew-set}
-use Rattle.k_joins.specs.Parts.{between, cut_of, CutAdded, KeptStep, cuts_of, keep_of, keeps_of, follows_of, run_of, meet_of, meets_of, left_of, lefts_of, InClass, ClassTold, ClassEnd, Follows, AllFollow, AllPairs, Coded, BlankCut, BlankRun, RunPart, Gathered, ChunkEnd}
+use Rattle.k_joins.specs.Parts.{between, cut_of, on_at, CutAdded, KeptStep, cuts_of, keep_of, keeps_of, follows_of, run_of, meet_of, meets_of, left_of, lefts_of, Follows, AllFollow, AllPairs, Coded, Blank, RunPart, ChunkEnd}
 use Rattle.k_joins.proofs.Adding.{add_all-most}
 
 -- ---- parts of a set
@@ -79,29 +81,43 @@ way-last : (W : Way) (p : List Terminals) (x : Terminals) → W.all (p ++ x ∷ 
 way-last W p x =
     way-append W p (x ∷ []) ∙ ap (λ (l : List Terminals). W.all p ++ l) (W.more x [] ∙ ap (λ (l : List Terminals). W.one x ++ l) W.none ∙ append-nil (W.one x))
 
-module _ {out exit : List ℕ} {m : Terminals} {g : Grown} {t : Bool} (y : Terminals) (at : m ≡ y) where
+module _ {out exit : List ℕ} {m : Terminals} {g : Growth} {t : Bool} (y : Terminals) (at : m ≡ y) where
   pub cut-given : {z : Terminals} (r : ℕ) → t ≡ eps_in (reads m) → t ≡ false → z ≡ cut_in r (reads m) → Grew out exit (adding z (decode out)) g → CutAdded r y out exit
   unfolding add_all
   cut-given r told e f h = record { told = g; grew = rw (sym at, sym told, e, sym f) h }
 
-  pub kept-given : {full : Bool} {p : ℕ} (k : ℕ) → t ≡ complete_in k (reads m) → t ≡ true → Grew out exit (adding m (decode out)) g → full ≡ is_full g → KeptStep k y (record { full = full; at = p }) out exit
+  pub kept-given : {s : Result ℕ Refusal} (p k : ℕ) → t ≡ complete_in k (reads m) → t ≡ true → Grew out exit (adding m (decode out)) g → s ≡ on_at p g → KeptStep k y s out exit
   unfolding add_all
-  kept-given k told e h f = record { told = g; full = f; grew = rw (sym at, sym told, e) h }
+  kept-given p k told e h f = record { told = g; at = p; is = f; grew = rw (sym at, sym told, e) h }
 
 module _ {out : List ℕ} {m : Terminals} {t : Bool} (y : Terminals) (at : m ≡ y) where
   pub no_cut : (r : ℕ) → t ≡ eps_in (reads m) → t ≡ true → IsSet out → CutAdded r y out out
   unfolding add_all
-  no_cut r told e s = record { told = Same; grew = rw (sym at, sym told, e) (grew-idle s) }
+  no_cut r told e s = record { told = Ok Same; grew = rw (sym at, sym told, e) (grew-idle s) }
 
-  pub not-kept : {p : ℕ} (k : ℕ) → t ≡ complete_in k (reads m) → t ≡ false → IsSet out → KeptStep k y (record { full = false; at = p }) out out
+  pub not-kept : {p : ℕ} (k : ℕ) → t ≡ complete_in k (reads m) → t ≡ false → IsSet out → KeptStep k y (Ok p) out out
   unfolding add_all
-  not-kept k told e s = record { told = Same; full = refl; grew = rw (sym at, sym told, e) (grew-idle s) }
+  not-kept {p} k told e s = record { told = Ok Same; at = p; is = refl; grew = rw (sym at, sym told, e) (grew-idle s) }
+
+-- what the answer of a step says of the set
+pub record Went (at a : ℕ) (told : Growth) : Type 0 where
+  pub grown : Grown
+  pub is : told ≡ Ok grown
+  pub same : at ≡ a
+
+pub went_on : {at a : ℕ} {told : Growth} → on_at at told ≡ Ok a → Went at a told
+went_on {told = Ok t} e = record { grown = t; is = refl; same = cc }
+went_on {told = Err x} e = cc
+
+pub stayed : {x : Refusal} {told : Growth} (at : ℕ) → on_at at told ≡ Err x → told ≡ Err x
+stayed {told = Ok t} at e = cc
+stayed {told = Err y} at e = cc
 
 -- ---- a set that takes what the members i to e of another give
 
-module _ {W : Way} {src entry ws exit : List ℕ} {goal : List Terminals} {n old i e : ℕ} {r : Grown} {full : Bool}
+module _ {W : Way} {src entry ws exit : List ℕ} {goal : List Terminals} {n old i e : ℕ} {r : Growth}
     (f : Filling W src entry goal n old i ws) (from : i ≤ e) (to : e ≤ length (decode src)) (given : List Terminals)
-    (same : add_all given (decode ws) ≡ add_all (W.all (between i e src)) (decode ws)) (g : Grew ws exit (add_all given (decode ws)) r) (told : full ≡ is_full r) where
+    (same : add_all given (decode ws) ≡ add_all (W.all (between i e src)) (decode ws)) (g : Grew ws exit (add_all given (decode ws)) r) where
   rest : List Terminals
   rest = W.all (drop e (decode src))
 
@@ -112,10 +128,10 @@ module _ {W : Way} {src entry ws exit : List ℕ} {goal : List Terminals} {n old
       ∙ ap (λ (l : List Terminals). add_all l (decode ws)) (sym (way-append W (between i e src) (drop e (decode src))) ∙ ap W.all (sym (between-rest i e src from to)))
       ∙ f.to-come
 
-  pub part-more : full ≡ false → Filling W src entry goal n old e exit
+  pub part-more : {t : Grown} → r ≡ Ok t → Filling W src entry goal n old e exit
   unfolding rest
   part-more t =
-      let e' : is_full r ≡ false = sym told ∙ t in
+      let e' : is_full r ≡ false = ap is_full t in
       let some : 1 ≤ length ws = set-some f.is_set in
       record {
         is_set = grew-set g e' some (rising-add_all given (decode ws) f.is_set.rises);
@@ -126,12 +142,12 @@ module _ {W : Way} {src entry ws exit : List ℕ} {goal : List Terminals} {n old
         to-come = ap (add_all rest) (grew-decode g e') ∙ rest-to-come;
       }
 
-  pub part-full : full ≡ true → Grew entry exit goal Full
+  pub part-full : {x : Refusal} {q : Growth} → r ≡ Err x → q ≡ Err x → Grew entry exit goal q
   unfolding rest
-  part-full t =
+  part-full t u =
       let over : room_of (length entry) < length goal =
-      rw (← f.as_long) (omega (arith, grew-over g (sym told ∙ t), length-add_all rest (add_all given (decode ws)), ap length rest-to-come)) in
-      record { answer = sym (grown-full _ _ _ over); words = λ h. absurd (omega arith) }
+      rw (← f.as_long) (omega (arith, grew-over g (ap is_full t), length-add_all rest (add_all given (decode ws)), ap length rest-to-come)) in
+      record { answer = u ∙ sym t ∙ g.answer ∙ grown-full _ _ _ (grew-over g (ap is_full t)) ∙ sym (grown-full _ _ _ over); words = λ h. absurd (omega arith) }
 
 -- ---- one member behind the others
 
@@ -147,34 +163,28 @@ pushed {n} {ws} {gap} {exit} x c e g some few h =
 
 -- ---- a row
 
--- on its way: the members i to t of xs, each followed by y, stand behind the n members that there were; m is the next place
-pub record Rowing (k : ℕ) (y : Terminals) (xs entry : List ℕ) (n i e t m : ℕ) (ws : List ℕ) : Type 0 where
+-- on its way: the members i to t of xs, each followed by y, stand behind the n members that there were
+pub record Rowing (k : ℕ) (y : Terminals) (xs entry : List ℕ) (n i e t : ℕ) (ws : List ℕ) : Type 0 where
   pub is : ws ≡ encode 0 (length entry) (decode entry ++ follows_of k y (between i t xs))
   pub members : decode ws ≡ decode entry ++ follows_of k y (between i t xs)
   pub coded : Coded ws
-  pub place : m ≡ length (decode ws)
-  pub counted : m + (e - t) ≡ n + (e - i)
+  pub place : n + (t - i) ≡ length (decode ws)
   pub from : i ≤ t
   pub to : t ≤ e
   pub as_long : length ws ≡ length entry
 
-pub row-start : {n i e : ℕ} (k : ℕ) (y : Terminals) (xs entry : List ℕ) → Coded entry → n ≡ length (decode entry) → i ≤ e → Rowing k y xs entry n i e i n entry
+pub row-start : {n i e : ℕ} (k : ℕ) (y : Terminals) (xs entry : List ℕ) → Coded entry → n ≡ length (decode entry) → i ≤ e → Rowing k y xs entry n i e i entry
 row-start {n} {i} {e} k y xs entry c s h =
     let none : decode entry ≡ decode entry ++ follows_of k y (between i i xs) = sym (append-nil (decode entry)) ∙ ap (λ (l : List Terminals). decode entry ++ l) (sym (ap (follows_of k y) (between_none i xs))) in
     record {
       is = c.is ∙ ap (encode 0 (length entry)) none;
       members = none;
       coded = c;
-      place = s;
-      counted = refl;
+      place = omega arith;
       from = omega arith;
       to = h;
       as_long = refl;
     }
-
-map_last : {A B : Type 0} (f : A → B) (p : List A) (x : A) → map f (p ++ x ∷ []) ≡ map f p ++ f x ∷ []
-map_last f [] x = refl
-map_last {B = B} f (y ∷ p) x = ap (λ (l : List B). f y ∷ l) (map_last f p x)
 
 encode-coded : (n : ℕ) (ms : List Terminals) (ws : List ℕ) → ws ≡ encode 0 n ms → 2 * length ms + 1 ≤ n → length ms < 4294967296 → (Coded ws) × (length ws ≡ n) × (decode ws ≡ ms)
 encode-coded n ms ws e h few =
@@ -182,12 +192,11 @@ encode-coded n ms ws e h few =
     let all : decode ws ≡ ms = ap decode e ∙ decode-encode 0 n ms few in
     (record { is = e ∙ ap₂ (encode 0) (sym size) (sym all) }, size, all)
 
-module _ {k : ℕ} {y : Terminals} {xs entry ws : List ℕ} {n i e t m : ℕ} (r : Rowing k y xs entry n i e t m ws) where
+module _ {k : ℕ} {y : Terminals} {xs entry ws : List ℕ} {n i e t : ℕ} (r : Rowing k y xs entry n i e t ws) where
   pub row_more : {x z : Terminals} {ws' : List ℕ} → e ≤ length (decode xs) → 2 * (n + (e - i)) + 1 ≤ length entry → n + (e - i) < 4294967296 → t < e
-      → x ≡ member_at xs (2 * t + 1) → z ≡ joined k (reads x) (reads y) → ws' ≡ encode 0 (length ws) (decode ws ++ z ∷ []) → Rowing k y xs entry n i e (t + 1) (m + 1) ws'
+      → x ≡ member_at xs (2 * t + 1) → z ≡ joined k (reads x) (reads y) → ws' ≡ encode 0 (length ws) (decode ws ++ z ∷ []) → Rowing k y xs entry n i e (t + 1) ws'
   row_more {x} {z} {ws'} w l few h at ez ew =
       let place = r.place in
-      let counted = r.counted in
       let from = r.from in
       let new = decode ws ++ z ∷ [] in
       let size : length new ≡ length (decode ws) + 1 = length-append (decode ws) (z ∷ []) in
@@ -195,7 +204,7 @@ module _ {k : ℕ} {y : Terminals} {xs entry ws : List ℕ} {n i e t m : ℕ} (r
       let f : Terminals → Terminals = λ u. joined k (reads u) (reads y) in
       let before' : decode ws ≡ decode entry ++ follows_of k y (between i t xs) = r.members in
       let last : follows_of k y (between i (t + 1) xs) ≡ follows_of k y (between i t xs) ++ z ∷ [] =
-      ap (follows_of k y) (between_more i xs from (omega arith)) ∙ map_last f (between i t xs) (member_at xs (2 * t + 1)) ∙ ap (λ (u : Terminals). follows_of k y (between i t xs) ++ u ∷ []) (sym (ez ∙ ap f at)) in
+      ap (follows_of k y) (between_more i xs from (omega arith)) ∙ map-append f (between i t xs) (member_at xs (2 * t + 1) ∷ []) ∙ ap (λ (u : Terminals). follows_of k y (between i t xs) ++ u ∷ []) (sym (ez ∙ ap f at)) in
       let all : new ≡ decode entry ++ follows_of k y (between i (t + 1) xs) =
       ap (λ (l : List Terminals). l ++ z ∷ []) before' ∙ append_assoc (decode entry) (follows_of k y (between i t xs)) (z ∷ []) ∙ ap (λ (l : List Terminals). decode entry ++ l) (sym last) in
       record {
@@ -203,14 +212,10 @@ module _ {k : ℕ} {y : Terminals} {xs entry ws : List ℕ} {n i e t m : ℕ} (r
         members = c.2 ∙ all;
         coded = c.0;
         place = omega (arith, ap length c.2);
-        counted = omega arith;
         from = omega arith;
         to = omega arith;
         as_long = c.1 ∙ r.as_long;
       }
-
-  pub row-end : e ≤ t → ws ≡ encode 0 (length entry) (decode entry ++ follows_of k y (between i e xs))
-  row-end h = let s : t ≡ e = omega (arith, r.to) in r.is ∙ ap (λ (u : ℕ). encode 0 (length entry) (decode entry ++ follows_of k y (between i u xs))) s
 
 pub follows-here : {k l i e t : ℕ} {x y : Terminals} (xs : List ℕ) → AllFollow k l xs i e y → i ≤ t → t < e → x ≡ member_at xs (2 * t + 1) → Follows k l x y
 follows-here {k} {l} {t = t} {y = y} xs f h b at = subst (λ (u : Terminals). Follows k l u y) (sym at) (f t h b)
@@ -261,7 +266,7 @@ pub record Running (k : ℕ) (xs ds entry : List ℕ) (i e j n f : ℕ) (ws : Li
   pub first : f ≡ j → n ≡ 0
   pub as_long : length ws ≡ length entry
 
-pub run-start : {ws : List ℕ} (k : ℕ) (xs ds : List ℕ) (i e j : ℕ) → BlankRun ws → j < length (decode ds) → Running k xs ds ws i e j 0 j ws
+pub run-start : {ws : List ℕ} (k : ℕ) (xs ds : List ℕ) (i e j : ℕ) → Blank ws → j < length (decode ds) → Running k xs ds ws i e j 0 j ws
 unfolding run_of
 run-start k xs ds i e j b h = record {
   is = b ∙ encode-none 255 (omega arith) ∙ ap (λ (l : List Terminals). encode 0 255 (run_of k (between i e xs) l)) (sym (between_none j ds));
@@ -309,24 +314,8 @@ module _ {k : ℕ} {xs ds entry ws : List ℕ} {i e j n f : ℕ} (r : Running k 
         as_long = ap length ew ∙ length-encode 0 (length ws) _ (omega (arith, run_long, length-append (decode ws) (follows_of k y A), run-place, r.few)) ∙ r.as_long;
       }
 
-  pub run-part : j < f → RunPart k xs i e ds j f ws
-  run-part h = record { more = h; within = r.to; fits = omega (arith, r.counted, r.few); is = r.is }
-
-  -- the first row has room
-  pub run-stopped : e ≤ i + 127 → 127 - n < e - i → RunPart k xs i e ds j f ws
-  run-stopped c h = run-part (by (dec_le f j))
-    where
-      by : Dec (f ≤ j) → j < f
-      by (yes q) = let z : n ≡ 0 = r.first (omega (arith, r.from)) in absurd (omega arith)
-      by (no q) = omega arith
-
 pub pair_row : {k l i e j ny : ℕ} {y : Terminals} (xs ys : List ℕ) → AllPairs k l xs i e ys → ny ≡ length (decode ys) → j < ny → y ≡ member_at ys (2 * j + 1) → AllFollow k l xs i e y
 pair_row {k} {l} {i} {e} {j} xs ys f c h at = subst (AllFollow k l xs i e) (sym at) (f j (omega (arith, length-decode ys)))
-
--- ---- a local array
-
-pub blank-long : (n : ℕ) {a b : List ℕ} → a ≡ replicate n 0 → b ≡ replicate n 0 → length a ≡ length b
-blank-long n e f = ap length e ∙ sym (ap length f)
 
 -- ---- a part of a run
 
@@ -360,32 +349,29 @@ module _ {k : ℕ} {xs ds ws : List ℕ} {i e j f : ℕ} (p : RunPart k xs i e d
   pub part-is : decode ws ≡ run_of k (between i e xs) (between j f ds)
   part-is = ap decode p.is ∙ decode-encode 0 255 _ (omega (arith, p.fits))
 
-  pub part-blank : {ws' : List ℕ} → ws' ≡ replicate (length ws) 0 → BlankRun ws'
+  pub part-blank : {ws' : List ℕ} → ws' ≡ replicate (length ws) 0 → Blank ws'
   part-blank z = z ∙ ap (λ (n : ℕ). replicate n 0) (ap length p.is ∙ length-encode 0 255 _ p.fits)
 
 -- the set that takes the run
-module _ {k n old : ℕ} {xs ds entry out exit ws : List ℕ} {i e j f : ℕ} {goal : List Terminals} {r : Grown} {full : Bool}
-    (h : Filling (its-run k (between i e xs)) ds entry goal n old j out) (p : RunPart k xs i e ds j f ws) (g : Grew out exit (add_all (decode ws) (decode out)) r) (told : full ≡ is_full r) where
+module _ {k n old : ℕ} {xs ds entry out exit ws : List ℕ} {i e j f : ℕ} {goal : List Terminals} {r : Growth}
+    (h : Filling (its-run k (between i e xs)) ds entry goal n old j out) (p : RunPart k xs i e ds j f ws) (g : Grew out exit (add_all (decode ws) (decode out)) r) where
   run-same : add_all (decode ws) (decode out) ≡ add_all (run_of k (between i e xs) (between j f ds)) (decode out)
   run-same = ap (λ (l : List Terminals). add_all l (decode out)) (part-is p)
 
-  pub run-taken : full ≡ false → Filling (its-run k (between i e xs)) ds entry goal n old f exit
-  run-taken = part-more h (part-from p) p.within (decode ws) run-same g told
+  pub run-taken : {t : Grown} → r ≡ Ok t → Filling (its-run k (between i e xs)) ds entry goal n old f exit
+  run-taken = part-more h (part-from p) p.within (decode ws) run-same g
 
-  pub run-full : full ≡ true → Grew entry exit goal Full
-  run-full = part-full h (part-from p) p.within (decode ws) run-same g told
+  pub run-full : {x : Refusal} {q : Growth} → r ≡ Err x → q ≡ Err x → Grew entry exit goal q
+  run-full = part-full h (part-from p) p.within (decode ws) run-same g
 
 -- a set that takes what a class gives with a part of the second set
-module _ (k : ℕ) {n old : ℕ} {ys entry out exit : List ℕ} {j f : ℕ} {goal : List Terminals} {r : Grown} {full : Bool} (A : List Terminals) (h : Filling (its-meet k A) ys entry goal n old j out)
-    (c : ChunkEnd n j f) (g : Grew out exit (add_all (meets_of k A (between j f ys)) (decode out)) r) (told : full ≡ is_full r) where
-  pub chunk-taken : full ≡ false → Filling (its-meet k A) ys entry goal n old f exit
-  chunk-taken = let more = c.more in part-more h (omega arith) (omega (arith, c.within, h.counted)) _ refl g told
+module _ (k : ℕ) {n old : ℕ} {ys entry out exit : List ℕ} {j f : ℕ} {goal : List Terminals} {r : Growth} (A : List Terminals) (h : Filling (its-meet k A) ys entry goal n old j out)
+    (c : ChunkEnd n j f) (g : Grew out exit (add_all (meets_of k A (between j f ys)) (decode out)) r) where
+  pub chunk-taken : {t : Grown} → r ≡ Ok t → Filling (its-meet k A) ys entry goal n old f exit
+  chunk-taken = let more = c.more in part-more h (omega arith) (omega (arith, c.within, h.counted)) _ refl g
 
-  pub chunk-full : full ≡ true → Grew entry exit goal Full
-  chunk-full = let more = c.more in part-full {e = f} h (omega arith) (omega (arith, c.within, h.counted)) _ refl g told
-
-pub chunk_of : {n j f : ℕ} (ys : List ℕ) → ChunkEnd n j f → n ≡ length (decode ys) → ChunkEnd (length (decode ys)) j f
-chunk_of {j = j} {f = f} ys c e = subst (λ (m : ℕ). ChunkEnd m j f) e c
+  pub chunk-full : {x : Refusal} {q : Growth} → r ≡ Err x → q ≡ Err x → Grew entry exit goal q
+  chunk-full = let more = c.more in part-full {e = f} h (omega arith) (omega (arith, c.within, h.counted)) _ refl g
 
 -- ---- one list after the other
 
@@ -398,16 +384,15 @@ pub record Steps (entry : List ℕ) (goal : List Terminals) (old : ℕ) (rest : 
   pub to-come : add_all rest (decode ws) ≡ goal
 
 pub steps-start : {entry : List ℕ} {goal : List Terminals} {old : ℕ} (rest : List Terminals) → IsSet entry → old ≡ length (decode entry) → add_all rest (decode entry) ≡ goal → Steps entry goal old rest entry
-steps-start rest s h e = record { is_set = s; as_long = refl; number = refl; had = h; to-come = e }
+steps-start left s h e = record { is_set = s; as_long = refl; number = refl; had = h; to-come = e }
 
-module _ {entry ws exit : List ℕ} {goal : List Terminals} {old : ℕ} {r : Grown} {full : Bool} (p q : List Terminals) (s : Steps entry goal old (p ++ q) ws) (g : Grew ws exit (add_all p (decode ws)) r)
-    (told : full ≡ is_full r) where
+module _ {entry ws exit : List ℕ} {goal : List Terminals} {old : ℕ} {r : Growth} (p q : List Terminals) (s : Steps entry goal old (p ++ q) ws) (g : Grew ws exit (add_all p (decode ws)) r) where
   after : add_all q (add_all p (decode ws)) ≡ goal
   after = sym (add_all-append p q (decode ws)) ∙ s.to-come
 
-  pub steps-more : full ≡ false → Steps entry goal old q exit
+  pub steps-more : {t : Grown} → r ≡ Ok t → Steps entry goal old q exit
   steps-more t =
-      let e : is_full r ≡ false = sym told ∙ t in
+      let e : is_full r ≡ false = ap is_full t in
       let some : 1 ≤ length ws = set-some s.is_set in
       record {
         is_set = grew-set g e some (rising-add_all p (decode ws) s.is_set.rises);
@@ -417,18 +402,18 @@ module _ {entry ws exit : List ℕ} {goal : List Terminals} {old : ℕ} {r : Gro
         to-come = ap (add_all q) (grew-decode g e) ∙ after;
       }
 
-  pub steps-full : full ≡ true → Grew entry exit goal Full
-  steps-full t =
-      let over : room_of (length entry) < length goal = rw (← s.as_long) (omega (arith, grew-over g (sym told ∙ t), length-add_all q (add_all p (decode ws)), ap length after)) in
-      record { answer = sym (grown-full _ _ _ over); words = λ h. absurd (omega arith) }
+  pub steps-full : {x : Refusal} {u : Growth} → r ≡ Err x → u ≡ Err x → Grew entry exit goal u
+  steps-full t u =
+      let over : room_of (length entry) < length goal = rw (← s.as_long) (omega (arith, grew-over g (ap is_full t), length-add_all q (add_all p (decode ws)), ap length after)) in
+      record { answer = u ∙ sym t ∙ g.answer ∙ grown-full _ _ _ (grew-over g (ap is_full t)) ∙ sym (grown-full _ _ _ over); words = λ h. absurd (omega arith) }
 
-pub steps-end : {entry ws : List ℕ} {goal : List Terminals} {old : ℕ} {r : Grown} → Steps entry goal old [] ws → r ≡ grown_from old (length (decode ws)) → Grew entry ws goal r
+pub steps-end : {entry ws : List ℕ} {goal : List Terminals} {old : ℕ} {r : Grown} → Steps entry goal old [] ws → r ≡ grown_from old (length (decode ws)) → Grew entry ws goal (Ok r)
 unfolding add_all
 steps-end {entry} {ws} {goal} s e =
     let all : decode ws ≡ goal = s.to-come in
     let fits : length goal ≤ room_of (length entry) = rw (← all, ← s.as_long) (set-within s.is_set) in
     record {
-      answer = e ∙ ap₂ grown_from s.had (ap length all) ∙ sym (grown-fits _ _ _ fits);
+      answer = ap (λ (t : Grown). Ok t) (e ∙ ap₂ grown_from s.had (ap length all)) ∙ sym (grown-fits _ _ _ fits);
       words = λ _. s.is_set.coded ∙ ap₂ (λ (u n : ℕ). encode u n (decode ws)) s.number s.as_long ∙ ap (encode (number_in entry) (length entry)) all;
     }
 
@@ -443,7 +428,7 @@ pub record Gathering (W : Way) (src : List ℕ) (j e t : ℕ) (ws : List ℕ) : 
   pub from : j ≤ t
   pub to : t ≤ e
 
-pub gather-start : {ws : List ℕ} {e n : ℕ} (W : Way) (src : List ℕ) (j : ℕ) → BlankCut ws → ChunkEnd n j e → Gathering W src j e j ws
+pub gather-start : {ws : List ℕ} {e n : ℕ} (W : Way) (src : List ℕ) (j : ℕ) → Blank ws → ChunkEnd n j e → Gathering W src j e j ws
 unfolding add_all
 gather-start {ws} W src j b h =
     let more = h.more in
@@ -458,7 +443,7 @@ gather-start {ws} W src j b h =
     }
 
 module _ {W : Way} {src ws : List ℕ} {j e t : ℕ} (g : Gathering W src j e t ws) where
-  pub gather-more : {exit : List ℕ} {r : Grown} → ChunkEnd (length (decode src)) j e → t < e → length (W.one (member_at src (2 * t + 1))) ≤ 1
+  pub gather-more : {exit : List ℕ} {r : Growth} → ChunkEnd (length (decode src)) j e → t < e → length (W.one (member_at src (2 * t + 1))) ≤ 1
       → Grew ws exit (add_all (W.one (member_at src (2 * t + 1))) (decode ws)) r → Gathering W src j e (t + 1) exit
   gather-more {exit} {r} c turn one grew =
       let within = c.within in
@@ -484,34 +469,9 @@ module _ {W : Way} {src ws : List ℕ} {j e t : ℕ} (g : Gathering W src j e t 
         to = omega arith;
       }
 
-  pub gather-end : e ≤ t → Gathered (W.all (between j e src)) ws
-  gather-end h = let s : t ≡ e = omega (arith, g.to) in record { is_set = g.is_set; as_long = g.as_long; members = g.members ∙ ap (λ (u : ℕ). add_all (W.all (between j u src)) []) s }
-
 pub one-cut : (r : ℕ) (y : Terminals) → length (cut_of r y) ≤ 1
 one-cut r y = by (eps_in (reads y))
   where
     by : (t : Bool) → length (cond t [] (cut_in r (reads y) ∷ [])) ≤ 1
     by true = omega arith
     by false = omega arith
-
--- ---- classes
-
-pub class-out : {x : Terminals} {k l : ℕ} → ClassTold k l x false
-class-out = record { inside = λ e. absurd (let z : ◌≡◌ {A = ℕ} 0 1 = cc in omega arith) }
-
-pub class-in : {x : Terminals} {k l n : ℕ} {c e : Bool} → n ≡ count_field (number_of x) → n ≡ l → c ≡ complete_in k (reads x) → c ≡ false → e ≡ eps_in (reads x) → e ≡ false → ClassTold k l x true
-class-in a b c d e f = record { inside = λ _. record { slots = sym a ∙ b; unended = sym c ∙ d; plain = sym e ∙ f } }
-
--- a class on its way: the members from i to e are in it
-pub class-start : {xs : List ℕ} {k l i : ℕ} → i < length (decode xs) → InClass k l (member_at xs (2 * i + 1)) → ClassEnd k l xs i (i + 1)
-class-start {xs} {k} {l} {i} h c =
-    record { more = omega arith; within = omega arith; few = omega arith; each = λ t a b. let e : i ≡ t = omega arith in subst (λ (j : ℕ). InClass k l (member_at xs (2 * j + 1))) e c }
-
-pub class-more : {xs : List ℕ} {k l i e n : ℕ} {x : Terminals} {r : Bool} → ClassEnd k l xs i e → n ≡ length (decode xs) → e < n → e - i < 127 → x ≡ member_at xs (2 * e + 1) → ClassTold k l x r → r ≡ true
-    → ClassEnd k l xs i (e + 1)
-class-more {xs} {k} {l} {i} {e} {n} {x} c d h room at g r =
-    record { more = omega (arith, c.more); within = omega arith; few = omega (arith, c.more); each = λ t a b. by t a b (dec_le e t) }
-  where
-    by : (t : ℕ) → i ≤ t → t < e + 1 → Dec (e ≤ t) → InClass k l (member_at xs (2 * t + 1))
-    by t a b (yes q) = let s : e ≡ t = omega arith in subst (λ (j : ℕ). InClass k l (member_at xs (2 * j + 1))) s (subst (InClass k l) at (g.inside r))
-    by t a b (no q) = c.each t a (omega arith)

@@ -22,7 +22,7 @@ pub record Examples : Type 0 where
   pub no_words : join_answer 1 0 (9 ∷ []) (9 ∷ []) ≡ refused 10 []
 
 pub examples : Examples
-unfolding value fields width_field count_field slots_field pack well_formed decode cmp_slots cmp in_order insert union unfinished join_sets flat count_word number_in count_in encode members Words.decode all_zero room_of set_words holds_counted holds_set set_in two_sets join_answer join_words
+unfolding value fields width_field count_field slots_field pack well_formed decode cmp_slots cmp in_order insert union unfinished join_sets flat count_word number_in count_in encode members Words.decode room_of set_words holds_counted holds_set set_in two_sets join_answer join_words
 examples = record {
   raised = refl;
   kept = refl;

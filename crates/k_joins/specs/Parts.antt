@@ -1,14 +1,14 @@
 -- The vocabulary of src/runs.rt: what is kept, cut and written on the way to a join, in packed strings. No public promise names any of it. Assumes nothing.
-use Rattle.std.specs.Prelude.{◌≡◌, Bool, true, false, cond, ◌||◌, List, [], ◌∷◌, ◌++◌, map, ℕ, ◌+◌, ◌-◌, ◌*◌, ◌≤◌, ◌<◌, length, take, drop, replicate}
+use Rattle.std.specs.Prelude.{◌≡◌, Bool, true, false, cond, ◌||◌, List, [], ◌∷◌, ◌++◌, map, ℕ, ◌+◌, ◌-◌, ◌*◌, ◌≤◌, ◌<◌, length, take, drop, replicate, Result, Ok, Err}
 use Rattle.k_tuple.specs.declared.Terminals.{Terminals}
 use Rattle.k_tuple.specs.Strings.{Str, eps, length_of, well_formed, count_field}
 use Rattle.k_tuple.specs.Packed.{Alike, packed, number_of, reads, joined, cut_in, eps_in, complete_in}
 use Rattle.k_tuples.specs.Sets.{◌∈◌, Sorted}
 use Rattle.k_tuples.specs.Members.{add_all, has_of}
-use Rattle.k_tuples.specs.Words.{count_in, member_at, encode, decode, IsSet, Grew, is_full}
+use Rattle.k_tuples.specs.Words.{count_in, member_at, encode, decode, IsSet, Growth, Grew}
 use Rattle.k_tuples.specs.Held.{first_width}
-use Rattle.k_tuples.specs.declared.set.Grown.{Grown}
-use Rattle.k_joins.specs.declared.runs.Next.{Next}
+use Rattle.refusals.specs.declared.Refusal.{Refusal}
+use Rattle.k_joins.specs.declared.runs.Lent.{Lent}
 
 -- the members from i to e
 abbrev pub between : ℕ → ℕ → List ℕ → List Terminals
@@ -125,12 +125,13 @@ AllPairs k l xs i e ys = (j : ℕ) → j < count_in ys → AllFollow k l xs i e 
 pub record Coded (ws : List ℕ) : Type 0 where
   pub is : ws ≡ encode 0 (length ws) (decode ws)
 
--- a local array that holds no members: for what is cut, and for a run
-abbrev pub BlankCut : List ℕ → Type 0
-BlankCut ws = ws ≡ replicate 255 0
+-- a local array that holds no members, and both that are lent
+abbrev pub Blank : List ℕ → Type 0
+Blank ws = ws ≡ replicate 255 0
 
-abbrev pub BlankRun : List ℕ → Type 0
-BlankRun ws = ws ≡ replicate 255 0
+pub record AllBlank (l : Lent) : Type 0 where
+  pub cut : Blank l.cut
+  pub run : Blank l.run
 
 -- the rows of the members j to f of ds have been written
 pub record RunPart (k : ℕ) (xs : List ℕ) (i e : ℕ) (ds : List ℕ) (j f : ℕ) (ws : List ℕ) : Type 0 where
@@ -141,13 +142,19 @@ pub record RunPart (k : ℕ) (xs : List ℕ) (i e : ℕ) (ds : List ℕ) (j f : 
 
 -- y was added, cut to r slots, unless it is ε
 pub record CutAdded (r : ℕ) (y : Terminals) (ws ws' : List ℕ) : Type 0 where
-  pub told : Grown
+  pub told : Growth
   pub grew : Grew ws ws' (add_all (cut_of r y) (decode ws)) told
 
+-- the answer of a step after which a join goes on at `at`: where there was no room, that
+abbrev pub on_at : ℕ → Growth → Result ℕ Refusal
+on_at at (Ok t) = Ok at
+on_at at (Err e) = Err e
+
 -- x was added, if it is complete and there was room
-pub record KeptStep (k : ℕ) (x : Terminals) (s : Next) (ws ws' : List ℕ) : Type 0 where
-  pub told : Grown
-  pub full : s.full ≡ is_full told
+pub record KeptStep (k : ℕ) (x : Terminals) (s : Result ℕ Refusal) (ws ws' : List ℕ) : Type 0 where
+  pub told : Growth
+  pub at : ℕ
+  pub is : s ≡ on_at at told
   pub grew : Grew ws ws' (add_all (keep_of k x) (decode ws)) told
 
 -- what a part of a set, of at most 127 members, gives has been gathered
@@ -163,12 +170,13 @@ pub record ChunkEnd (n j e : ℕ) : Type 0 where
   pub few : e ≤ j + 127
 
 -- a join has gone on from member i
-pub record PartStep (k : ℕ) (xs ys : List ℕ) (i : ℕ) (s : Next) (ws ws' : List ℕ) : Type 0 where
-  pub told : Grown
-  pub more : i < s.at
-  pub within : s.at ≤ length (decode xs)
-  pub full : s.full ≡ is_full told
-  pub grew : Grew ws ws' (add_all (lefts_of k (between i s.at xs) (decode ys)) (decode ws)) told
+pub record PartStep (k : ℕ) (xs ys : List ℕ) (i : ℕ) (s : Result ℕ Refusal) (ws ws' : List ℕ) : Type 0 where
+  pub told : Growth
+  pub at : ℕ
+  pub is : s ≡ on_at at told
+  pub more : i < at
+  pub within : at ≤ length (decode xs)
+  pub grew : Grew ws ws' (add_all (lefts_of k (between i at xs) (decode ys)) (decode ws)) told
 
 -- the least and the greatest number of slots
 pub record SizesTold (k : ℕ) (ys : List ℕ) (r : Bool) : Type 0 where

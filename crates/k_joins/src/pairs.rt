@@ -5,10 +5,11 @@ ghost use Rattle.k_tuples.specs.Words.{member_at, decode, IsSet, Grew, Joinable,
 
 use k_tuple::Terminals;
 use k_tuple::well::{is_complete, join};
-use k_tuples::set::{Grown, count, growth, insert, is_full, member};
+use k_tuples::set::{Grown, count, growth, insert, member};
+use refusals::Refusal;
 
 // Adds the join of x with member i of ys to out.
-fn add_join(out: &mut [u64], x: Terminals, ys: &[u64], i: usize, k: u64) -> Grown
+fn add_join(out: &mut [u64], x: Terminals, ys: &[u64], i: usize, k: u64) -> Result<Grown, Refusal>
     requires { IsSet out.old × (IsSet ys.now × ((i < length (decode ys.now)) × Joinable k x ys.now)) }
     ensures { Grew out.old out.new (add_all (joins_of k x (member_at ys.now (2 * i + 1) ∷ [])) (decode out.old)) result }
 {
@@ -16,24 +17,20 @@ fn add_join(out: &mut [u64], x: Terminals, ys: &[u64], i: usize, k: u64) -> Grow
 }
 
 // Adds the join of x with each member of ys to out.
-fn join_each(out: &mut [u64], x: Terminals, ys: &[u64], k: u64) -> Grown
+fn join_each(out: &mut [u64], x: Terminals, ys: &[u64], k: u64) -> Result<Grown, Refusal>
     requires { IsSet out.old × (IsSet ys.now × Joinable k x ys.now) }
     ensures { Grew out.old out.new (add_all (joins_of k x (decode ys.now)) (decode out.old)) result }
 {
     let old = count(out);
     let n = count(ys);
-    let mut i = 0;
-    while i < n {
-        if is_full(add_join(out, x, ys, i, k)) {
-            return Grown::Full;
-        }
-        i += 1;
+    for i in 0..n {
+        add_join(out, x, ys, i, k)?;
     }
-    growth(old, out)
+    Ok(growth(old, out))
 }
 
 // Adds to out what member i of xs gives in a join with ys: itself, if it is complete.
-fn join_row(out: &mut [u64], xs: &[u64], i: usize, ys: &[u64], k: u64) -> Grown
+fn join_row(out: &mut [u64], xs: &[u64], i: usize, ys: &[u64], k: u64) -> Result<Grown, Refusal>
     requires { IsSet out.old × (IsSet xs.now × (IsSet ys.now × ((i < length (decode xs.now)) × AllJoinable k xs.now ys.now))) }
     ensures { Grew out.old out.new (add_all (row_of k (member_at xs.now (2 * i + 1)) (decode ys.now)) (decode out.old)) result }
 {
@@ -45,18 +42,14 @@ fn join_row(out: &mut [u64], xs: &[u64], i: usize, ys: &[u64], k: u64) -> Grown
 }
 
 // Adds the join of two sets at k to out, pair by pair.
-pub fn join_plain(out: &mut [u64], xs: &[u64], ys: &[u64], k: u64) -> Grown
+pub fn join_plain(out: &mut [u64], xs: &[u64], ys: &[u64], k: u64) -> Result<Grown, Refusal>
     requires { IsSet out.old × (IsSet xs.now × (IsSet ys.now × AllJoinable k xs.now ys.now)) }
     ensures { Grew out.old out.new (add_all (pairs_of k (decode xs.now) (decode ys.now)) (decode out.old)) result }
 {
     let old = count(out);
     let n = count(xs);
-    let mut i = 0;
-    while i < n {
-        if is_full(join_row(out, xs, i, ys, k)) {
-            return Grown::Full;
-        }
-        i += 1;
+    for i in 0..n {
+        join_row(out, xs, i, ys, k)?;
     }
-    growth(old, out)
+    Ok(growth(old, out))
 }

@@ -1,40 +1,52 @@
 // The join of two sets by runs. The members of the first set that have l slots, each followed by the members of the second set, cut to what k leaves
 // room for, in order, rise: they are written one after the other, without any search, and united with what there is.
 ghost use Rattle.std.specs.Prelude.{◌≡◌, true, ◌+◌, ◌-◌, ◌*◌, ◌≤◌, ◌<◌, [], ◌∷◌, ◌++◌, length, get_or, replicate};
-ghost use Rattle.k_tuple.specs.Wide.{value};
-ghost use Rattle.k_tuple.specs.Strings.{width_field, count_field, slots_field};
+ghost use Rattle.k_tuple.specs.Strings.{count_field};
 ghost use Rattle.k_tuple.specs.Packed.{WellFormed, number_of, reads, joined, cut_in};
 ghost use Rattle.k_tuples.specs.Members.{rising, add_all, pairs_of};
 ghost use Rattle.k_tuples.specs.Words.{member_at, encode, decode, IsSet, Grew, AllJoinable, AllWellFormed};
-ghost use Rattle.k_joins.specs.Parts.{between, cuts_of, CutAdded, KeptStep, keeps_of, follows_of, run_of, meets_of, lefts_of, has_eps, stay_of, second_of, Joining, InClass, ClassTold, ClassEnd, Follows, AllFollow, AllPairs, Coded, BlankCut, BlankRun, RunPart, Gathered, ChunkEnd, PartStep, SizesTold};
+ghost use Rattle.k_joins.specs.Parts.{between, cuts_of, CutAdded, KeptStep, keeps_of, follows_of, run_of, meets_of, lefts_of, has_eps, stay_of, second_of, Joining, InClass, ClassTold, ClassEnd, Follows, AllFollow, AllPairs, Coded, Blank, AllBlank, RunPart, Gathered, ChunkEnd, PartStep, SizesTold};
 
 use crate::pairs::join_plain;
 use k_tuple::Terminals;
 use k_tuple::parts::{count as slot_count, sealed, slots, width};
 use k_tuple::well::{eps, is_complete, is_eps};
-use k_tuple::wide::{Words, low_part, stacked};
+use k_tuple::wide::{low_part, stacked};
 use k_tuples::set::{
-    Grown, clear_set, count, growth, has, insert_at, is_full, member, place_near, put_in,
-    start_count, union_into,
+    Grown, clear_set, count, growth, has, insert_at, member, place_near, put_in, start_count,
+    union_into,
 };
+use refusals::Refusal;
 
 // How many members of the second set are cut at a time, and how many members a run has at most.
-const CHUNK: usize = 127;
+const PART: usize = 127;
 
-const RUN: usize = 127;
+// How many words have room for so many.
+const PART_WORDS: usize = 2 * PART + 1;
 
-// Where a join goes on, or that there is no room.
+// Members of the first set that have so many slots, and are neither complete nor ε: from one index to another.
 #[derive(Clone, Copy)]
-pub struct Next {
-    pub full: bool,
-    pub at: usize,
+pub struct Class {
+    pub from: usize,
+    pub to: usize,
+    pub slots: u64,
 }
 
-// x, which has l slots, followed by the whole of y, whose width, number of slots and slots were read.
-fn followed(x: Terminals, y: Terminals, w: u64, l: u64, m: u64, above: Words, k: u64) -> Terminals
-    requires { Follows k l x y × ((w ≡ width_field (number_of y)) × ((m ≡ count_field (number_of y)) × (value above.lo above.hi ≡ slots_field (number_of y)))) }
+// What is lent to a join, without members: for what is cut of the second set, and for a run.
+#[derive(Drop)]
+pub struct Lent {
+    pub cut: [u64; PART_WORDS],
+    pub run: [u64; PART_WORDS],
+}
+
+// x, which has l slots, followed by the whole of y.
+fn followed(x: Terminals, y: Terminals, l: u64, k: u64) -> Terminals
+    requires { Follows k l x y }
     ensures { result ≡ joined k (reads x) (reads y) }
 {
+    let w = width(y);
+    let m = slot_count(y);
+    let above = slots(y);
     let low = slots(x);
     sealed(w, l + m, stacked(above, l * w, low))
 }
@@ -48,56 +60,44 @@ fn push(r: &mut [u64], n: usize, x: Terminals)
     start_count(r, n + 1);
 }
 
-// Writes the members i to e of xs, which have l slots, behind the n members in r, each followed by y.
-fn put_row(r: &mut [u64], n: usize, xs: &[u64], i: usize, e: usize, l: u64, y: Terminals, k: u64)
-    requires { (IsSet xs.now × AllFollow k l xs.now i e y) × ((i ≤ e) × ((e ≤ length (decode xs.now)) × (Coded r.old × ((n ≡ length (decode r.old)) × ((2 * (n + (e - i)) + 1 ≤ length r.old) × (n + (e - i) < 4294967296)))))) }
-    ensures { r.new ≡ encode 0 (length r.old) (decode r.old ++ follows_of k y (between i e xs.now)) }
+// Writes the members of a class behind the n members in r, each followed by y.
+fn put_row(r: &mut [u64], n: usize, xs: &[u64], class: Class, y: Terminals, k: u64)
+    requires follow { IsSet xs.now × AllFollow k class.slots xs.now class.from class.to y }
+    requires within { (class.from ≤ class.to) × (class.to ≤ length (decode xs.now)) }
+    requires behind { Coded r.old × (n ≡ length (decode r.old)) }
+    requires room { (2 * (n + (class.to - class.from)) + 1 ≤ length r.old) × (n + (class.to - class.from) < 4294967296) }
+    ensures { r.new ≡ encode 0 (length r.old) (decode r.old ++ follows_of k y (between class.from class.to xs.now)) }
 {
-    let w = width(y);
-    let more = slot_count(y);
-    let above = slots(y);
-    let mut t = i;
-    let mut m = n;
-    while t < e {
-        let x = member(xs, t);
-        push(r, m, followed(x, y, w, l, more, above, k));
-        m += 1;
-        t += 1;
+    for t in class.from..class.to {
+        let x = followed(member(xs, t), y, class.slots, k);
+        push(r, n + (t - class.from), x);
     }
 }
 
-// Writes the members i to e of xs followed by each member of ds from j on, as long as r has room for the row. Tells where it stopped.
-fn put_run(
-    r: &mut [u64],
-    xs: &[u64],
-    i: usize,
-    e: usize,
-    l: u64,
-    ds: &[u64],
-    j: usize,
-    k: u64,
-) -> usize
-    requires { (IsSet xs.now × (IsSet ds.now × BlankRun r.old)) × (AllPairs k l xs.now i e ds.now × (ClassEnd k l xs.now i e × (j < length (decode ds.now)))) }
-    ensures { RunPart k xs.now i e ds.now j result r.new }
+// Writes the members of a class followed by each member of ds from j on, as long as r has room for the row. Tells where it stopped.
+fn put_run(r: &mut [u64], xs: &[u64], class: Class, ds: &[u64], j: usize, k: u64) -> usize
+    requires sets { IsSet xs.now × (IsSet ds.now × Blank r.old) }
+    requires pairs { AllPairs k class.slots xs.now class.from class.to ds.now }
+    requires class { ClassEnd k class.slots xs.now class.from class.to }
+    requires more { j < length (decode ds.now) }
+    ensures { RunPart k xs.now class.from class.to ds.now j result r.new }
 {
-    let size = e - i;
+    let size = class.to - class.from;
     let nd = count(ds);
     let mut n = 0;
-    let mut f = j;
-    while f < nd {
-        if RUN - n < size {
+    for f in j..nd {
+        if PART - n < size {
             return f;
         }
         let y = member(ds, f);
-        put_row(r, n, xs, i, e, l, y, k);
+        put_row(r, n, xs, class, y, k);
         n += size;
-        f += 1;
     }
-    f
+    nd
 }
 
 // Unites out with the set in r, and clears r.
-fn unite(out: &mut [u64], r: &mut [u64]) -> Grown
+fn unite(out: &mut [u64], r: &mut [u64]) -> Result<Grown, Refusal>
     requires { IsSet out.old × IsSet r.old }
     ensures grew { Grew out.old out.new (add_all (decode r.old) (decode out.old)) result }
     ensures cleared { r.new ≡ replicate (length r.old) 0 }
@@ -107,32 +107,31 @@ fn unite(out: &mut [u64], r: &mut [u64]) -> Grown
     g
 }
 
-// Unites out with the run of the members i to e of xs, which have l slots, with ds; r is lent for the run.
+// Unites out with the run of a class with ds; r is lent for the run.
 fn run_into(
     out: &mut [u64],
     r: &mut [u64],
     xs: &[u64],
-    i: usize,
-    e: usize,
-    l: u64,
+    class: Class,
     ds: &[u64],
     k: u64,
-) -> Grown
-    requires { (IsSet out.old × (BlankRun r.old × (IsSet xs.now × IsSet ds.now))) × (AllPairs k l xs.now i e ds.now × (ClassEnd k l xs.now i e × (rising (run_of k (between i e xs.now) (decode ds.now)) ≡ true))) }
-    ensures grew { Grew out.old out.new (add_all (run_of k (between i e xs.now) (decode ds.now)) (decode out.old)) result }
-    ensures cleared { BlankRun r.new }
+) -> Result<Grown, Refusal>
+    requires sets { IsSet out.old × (Blank r.old × (IsSet xs.now × IsSet ds.now)) }
+    requires pairs { AllPairs k class.slots xs.now class.from class.to ds.now }
+    requires class { ClassEnd k class.slots xs.now class.from class.to }
+    requires rises { rising (run_of k (between class.from class.to xs.now) (decode ds.now)) ≡ true }
+    ensures grew { Grew out.old out.new (add_all (run_of k (between class.from class.to xs.now) (decode ds.now)) (decode out.old)) result }
+    ensures cleared { Blank r.new }
 {
     let old = count(out);
     let n = count(ds);
     let mut j = 0;
     while j < n {
-        let f = put_run(r, xs, i, e, l, ds, j, k);
-        if is_full(unite(out, r)) {
-            return Grown::Full;
-        }
+        let f = put_run(r, xs, class, ds, j, k);
+        unite(out, r)?;
         j = f;
     }
-    growth(old, out)
+    Ok(growth(old, out))
 }
 
 // Where the part from j on ends, of n members.
@@ -140,10 +139,7 @@ fn chunk_end(j: usize, n: usize) -> usize
     requires { j < n }
     ensures { ChunkEnd n j result }
 {
-    if n - j < CHUNK {
-        return n;
-    }
-    j + CHUNK
+    j + (n - j).min(PART)
 }
 
 // The first m slots of y, cut off by whole words.
@@ -169,74 +165,70 @@ fn add_cut(d: &mut [u64], ys: &[u64], i: usize, r: u64, f: usize) -> usize
     }
     let x = shortened(y, r);
     let p = place_near(d, x, f);
-    insert_at(d, p, x);
+    // There is room: d holds as many members as a part has.
+    let _ = insert_at(d, p, x);
     p
 }
 
 // Makes d the set of the members j to e of ys but ε, each cut to r slots. Cuts of members that share their last slots rise, so each is looked for behind the one before it.
 fn cut_into(d: &mut [u64], ys: &[u64], j: usize, e: usize, r: u64)
-    requires { (BlankCut d.old × IsSet ys.now) × (ChunkEnd (length (decode ys.now)) j e × (AllWellFormed ys.now × (r ≤ 10))) }
+    requires { (Blank d.old × IsSet ys.now) × (ChunkEnd (length (decode ys.now)) j e × (AllWellFormed ys.now × (r ≤ 10))) }
     ensures { Gathered (cuts_of r (between j e ys.now)) d.new }
 {
-    let mut t = j;
     let mut f = 0;
-    while t < e {
+    for t in j..e {
         f = add_cut(d, ys, t, r, f);
-        t += 1;
     }
 }
 
-// Unites out with the join of the members i to e of xs, which have l slots, with the members j to f of ys but ε; d and r are lent.
+// Unites out with the join of a class with the members j to f of ys but ε.
 fn join_chunk(
     out: &mut [u64],
-    d: &mut [u64],
-    r: &mut [u64],
+    lent: &mut Lent,
     xs: &[u64],
-    i: usize,
-    e: usize,
-    l: u64,
+    class: Class,
     ys: &[u64],
     j: usize,
     f: usize,
     k: u64,
-) -> Grown
-    requires { (IsSet out.old × (BlankCut d.old × BlankRun r.old)) × ((IsSet xs.now × IsSet ys.now) × (Joining k xs.now ys.now × (ClassEnd k l xs.now i e × ChunkEnd (length (decode ys.now)) j f))) }
-    ensures grew { Grew out.old out.new (add_all (meets_of k (between i e xs.now) (between j f ys.now)) (decode out.old)) result }
-    ensures cleared { BlankCut d.new × BlankRun r.new }
+) -> Result<Grown, Refusal>
+    requires sets { (IsSet out.old × AllBlank lent.old) × (IsSet xs.now × IsSet ys.now) }
+    requires joining { Joining k xs.now ys.now }
+    requires class { ClassEnd k class.slots xs.now class.from class.to }
+    requires chunk { ChunkEnd (length (decode ys.now)) j f }
+    ensures grew { Grew out.old out.new (add_all (meets_of k (between class.from class.to xs.now) (between j f ys.now)) (decode out.old)) result }
+    ensures cleared { AllBlank lent.new }
 {
-    cut_into(d, ys, j, f, k - l);
-    let g = run_into(out, r, xs, i, e, l, d, k);
-    clear_set(d);
+    cut_into(&mut lent.cut, ys, j, f, k - class.slots);
+    let g = run_into(out, &mut lent.run, xs, class, &lent.cut, k);
+    clear_set(&mut lent.cut);
     g
 }
 
 // The same with all members of ys but ε, a part at a time.
 fn join_class(
     out: &mut [u64],
-    d: &mut [u64],
-    r: &mut [u64],
+    lent: &mut Lent,
     xs: &[u64],
-    i: usize,
-    e: usize,
-    l: u64,
+    class: Class,
     ys: &[u64],
     k: u64,
-) -> Grown
-    requires { (IsSet out.old × (BlankCut d.old × BlankRun r.old)) × ((IsSet xs.now × IsSet ys.now) × (Joining k xs.now ys.now × ClassEnd k l xs.now i e)) }
-    ensures grew { Grew out.old out.new (add_all (meets_of k (between i e xs.now) (decode ys.now)) (decode out.old)) result }
-    ensures cleared { BlankCut d.new × BlankRun r.new }
+) -> Result<Grown, Refusal>
+    requires sets { (IsSet out.old × AllBlank lent.old) × (IsSet xs.now × IsSet ys.now) }
+    requires joining { Joining k xs.now ys.now }
+    requires class { ClassEnd k class.slots xs.now class.from class.to }
+    ensures grew { Grew out.old out.new (add_all (meets_of k (between class.from class.to xs.now) (decode ys.now)) (decode out.old)) result }
+    ensures cleared { AllBlank lent.new }
 {
     let old = count(out);
     let n = count(ys);
     let mut j = 0;
     while j < n {
         let f = chunk_end(j, n);
-        if is_full(join_chunk(out, d, r, xs, i, e, l, ys, j, f, k)) {
-            return Grown::Full;
-        }
+        join_chunk(out, lent, xs, class, ys, j, f, k)?;
         j = f;
     }
-    growth(old, out)
+    Ok(growth(old, out))
 }
 
 // Whether x has l slots and is neither complete nor ε.
@@ -247,13 +239,7 @@ fn in_class(x: Terminals, l: u64, k: u64) -> bool
     if slot_count(x) != l {
         return false;
     }
-    if is_complete(x, k) {
-        return false;
-    }
-    if is_eps(x) {
-        return false;
-    }
-    true
+    !is_complete(x, k) && !is_eps(x)
 }
 
 // The end of the class of l slots that member i is in, or of what a run has room for.
@@ -261,104 +247,82 @@ fn class_end(xs: &[u64], i: usize, l: u64, k: u64) -> usize
     requires { (IsSet xs.now × AllWellFormed xs.now) × ((i < length (decode xs.now)) × InClass k l (member_at xs.now (2 * i + 1))) }
     ensures { ClassEnd k l xs.now i result }
 {
-    let n = count(xs);
-    let mut e = i + 1;
-    while e < n {
-        if RUN <= e - i {
+    let end = count(xs).min(i + PART);
+    for e in i + 1..end {
+        if !in_class(member(xs, e), l, k) {
             return e;
         }
-        let x = member(xs, e);
-        if in_class(x, l, k) {} else {
-            return e;
-        }
-        e += 1;
     }
-    e
+    end
 }
 
 // Goes on with the class of member i, which is x, neither complete nor ε.
 fn next_class(
     out: &mut [u64],
-    d: &mut [u64],
-    r: &mut [u64],
+    lent: &mut Lent,
     xs: &[u64],
     i: usize,
     x: Terminals,
     ys: &[u64],
     k: u64,
-) -> Next
-    requires { (IsSet out.old × (BlankCut d.old × BlankRun r.old)) × ((IsSet xs.now × IsSet ys.now) × (Joining k xs.now ys.now × ((i < length (decode xs.now)) × (x ≡ member_at xs.now (2 * i + 1)) × InClass k (count_field (number_of x)) x))) }
+) -> Result<usize, Refusal>
+    requires sets { (IsSet out.old × AllBlank lent.old) × (IsSet xs.now × IsSet ys.now) }
+    requires joining { Joining k xs.now ys.now }
+    requires here { (i < length (decode xs.now)) × (x ≡ member_at xs.now (2 * i + 1)) × InClass k (count_field (number_of x)) x }
     ensures step { PartStep k xs.now ys.now i result out.old out.new }
-    ensures cleared { BlankCut d.new × BlankRun r.new }
+    ensures cleared { AllBlank lent.new }
 {
-    let l = slot_count(x);
-    let e = class_end(xs, i, l, k);
-    let g = join_class(out, d, r, xs, i, e, l, ys, k);
-    Next {
-        full: is_full(g),
-        at: e,
-    }
+    let slots = slot_count(x);
+    let to = class_end(xs, i, slots, k);
+    let class = Class { from: i, to, slots };
+    join_class(out, lent, xs, class, ys, k)?;
+    Ok(to)
 }
 
 // Goes on with member i: what is complete and ε have been seen to, and any other begins a class. Behind a member of k slots there are only such.
 fn join_part(
     out: &mut [u64],
-    d: &mut [u64],
-    r: &mut [u64],
+    lent: &mut Lent,
     xs: &[u64],
     i: usize,
     ys: &[u64],
     k: u64,
-) -> Next
-    requires { (IsSet out.old × (BlankCut d.old × BlankRun r.old)) × ((IsSet xs.now × IsSet ys.now) × (Joining k xs.now ys.now × (i < length (decode xs.now)))) }
+) -> Result<usize, Refusal>
+    requires sets { (IsSet out.old × AllBlank lent.old) × (IsSet xs.now × IsSet ys.now) }
+    requires joining { Joining k xs.now ys.now }
+    requires more { i < length (decode xs.now) }
     ensures step { PartStep k xs.now ys.now i result out.old out.new }
-    ensures cleared { BlankCut d.new × BlankRun r.new }
+    ensures cleared { AllBlank lent.new }
 {
     let x = member(xs, i);
     if k <= slot_count(x) {
-        return Next {
-            full: false,
-            at: count(xs),
-        };
+        return Ok(count(xs));
     }
-    if is_complete(x, k) {
-        return Next {
-            full: false,
-            at: i + 1,
-        };
+    if is_complete(x, k) || is_eps(x) {
+        return Ok(i + 1);
     }
-    if is_eps(x) {
-        return Next {
-            full: false,
-            at: i + 1,
-        };
-    }
-    next_class(out, d, r, xs, i, x, ys, k)
+    next_class(out, lent, xs, i, x, ys, k)
 }
 
 // Goes on with a join, class by class.
 fn join_classes(
     out: &mut [u64],
-    d: &mut [u64],
-    r: &mut [u64],
+    lent: &mut Lent,
     xs: &[u64],
     ys: &[u64],
     k: u64,
-) -> Grown
-    requires { (IsSet out.old × (BlankCut d.old × BlankRun r.old)) × ((IsSet xs.now × IsSet ys.now) × Joining k xs.now ys.now) }
+) -> Result<Grown, Refusal>
+    requires sets { (IsSet out.old × AllBlank lent.old) × (IsSet xs.now × IsSet ys.now) }
+    requires joining { Joining k xs.now ys.now }
     ensures { Grew out.old out.new (add_all (lefts_of k (decode xs.now) (decode ys.now)) (decode out.old)) result }
 {
     let old = count(out);
     let n = count(xs);
     let mut i = 0;
     while i < n {
-        let s = join_part(out, d, r, xs, i, ys, k);
-        if s.full {
-            return Grown::Full;
-        }
-        i = s.at;
+        i = join_part(out, lent, xs, i, ys, k)?;
     }
-    growth(old, out)
+    Ok(growth(old, out))
 }
 
 // Whether a set that has members has ε.
@@ -371,45 +335,36 @@ fn has_eps(ys: &[u64]) -> bool
     has(ys, e)
 }
 
-// Adds member i of xs to out if it is complete. It is looked for behind member f first; tells whether there was no room, and where it stands.
-fn add_kept(out: &mut [u64], xs: &[u64], i: usize, k: u64, f: usize) -> Next
+// Adds member i of xs to out if it is complete. It is looked for behind member f first; tells where it stands.
+fn add_kept(out: &mut [u64], xs: &[u64], i: usize, k: u64, f: usize) -> Result<usize, Refusal>
     requires { IsSet out.old × (IsSet xs.now × ((i < length (decode xs.now)) × AllWellFormed xs.now)) }
     ensures { KeptStep k (member_at xs.now (2 * i + 1)) result out.old out.new }
 {
     let x = member(xs, i);
-    if is_complete(x, k) {
-        let p = place_near(out, x, f);
-        let g = insert_at(out, p, x);
-        return Next {
-            full: is_full(g),
-            at: p,
-        };
+    if !is_complete(x, k) {
+        return Ok(f);
     }
-    Next { full: false, at: f }
+    let p = place_near(out, x, f);
+    insert_at(out, p, x)?;
+    Ok(p)
 }
 
 // Adds the members of xs that are complete to out.
-fn keep_into(out: &mut [u64], xs: &[u64], k: u64) -> Grown
+fn keep_into(out: &mut [u64], xs: &[u64], k: u64) -> Result<Grown, Refusal>
     requires { IsSet out.old × (IsSet xs.now × AllWellFormed xs.now) }
     ensures { Grew out.old out.new (add_all (keeps_of k (decode xs.now)) (decode out.old)) result }
 {
     let old = count(out);
     let n = count(xs);
-    let mut i = 0;
     let mut f = 0;
-    while i < n {
-        let s = add_kept(out, xs, i, k, f);
-        if s.full {
-            return Grown::Full;
-        }
-        f = s.at;
-        i += 1;
+    for i in 0..n {
+        f = add_kept(out, xs, i, k, f)?;
     }
-    growth(old, out)
+    Ok(growth(old, out))
 }
 
 // Adds what stays as it is in a join to out: everything where the second set has ε, otherwise what is complete.
-fn join_stay(out: &mut [u64], xs: &[u64], ys: &[u64], k: u64) -> Grown
+fn join_stay(out: &mut [u64], xs: &[u64], ys: &[u64], k: u64) -> Result<Grown, Refusal>
     requires { (IsSet out.old × (IsSet xs.now × IsSet ys.now)) × Joining k xs.now ys.now }
     ensures { Grew out.old out.new (add_all (stay_of k (decode xs.now) (decode ys.now)) (decode out.old)) result }
 {
@@ -420,42 +375,38 @@ fn join_stay(out: &mut [u64], xs: &[u64], ys: &[u64], k: u64) -> Grown
 }
 
 // Adds the second set to out, if the first has ε.
-fn join_second(out: &mut [u64], xs: &[u64], ys: &[u64], k: u64) -> Grown
+fn join_second(out: &mut [u64], xs: &[u64], ys: &[u64], k: u64) -> Result<Grown, Refusal>
     requires { (IsSet out.old × (IsSet xs.now × IsSet ys.now)) × Joining k xs.now ys.now }
     ensures { Grew out.old out.new (add_all (second_of (decode xs.now) (decode ys.now)) (decode out.old)) result }
 {
     if has_eps(xs) {
         return union_into(out, ys);
     }
-    Grown::Same
+    Ok(Grown::Same)
 }
 
 // Makes the join of two sets class by class in local arrays.
-fn join_left(out: &mut [u64], xs: &[u64], ys: &[u64], k: u64) -> Grown
+fn join_left(out: &mut [u64], xs: &[u64], ys: &[u64], k: u64) -> Result<Grown, Refusal>
     requires { (IsSet out.old × (IsSet xs.now × IsSet ys.now)) × Joining k xs.now ys.now }
     ensures { Grew out.old out.new (add_all (lefts_of k (decode xs.now) (decode ys.now)) (decode out.old)) result }
 {
-    let mut d = [0u64; 255];
-    let mut r = [0u64; 255];
-    join_classes(out, &mut d, &mut r, xs, ys, k)
+    let mut lent = Lent {
+        cut: [0; PART_WORDS],
+        run: [0; PART_WORDS],
+    };
+    join_classes(out, &mut lent, xs, ys, k)
 }
 
 // Adds the join of two sets at k to out, by runs.
-fn join_runs(out: &mut [u64], xs: &[u64], ys: &[u64], k: u64) -> Grown
+fn join_runs(out: &mut [u64], xs: &[u64], ys: &[u64], k: u64) -> Result<Grown, Refusal>
     requires { (IsSet out.old × (IsSet xs.now × IsSet ys.now)) × Joining k xs.now ys.now }
     ensures { Grew out.old out.new (add_all (pairs_of k (decode xs.now) (decode ys.now)) (decode out.old)) result }
 {
     let old = count(out);
-    if is_full(join_stay(out, xs, ys, k)) {
-        return Grown::Full;
-    }
-    if is_full(join_second(out, xs, ys, k)) {
-        return Grown::Full;
-    }
-    if is_full(join_left(out, xs, ys, k)) {
-        return Grown::Full;
-    }
-    growth(old, out)
+    join_stay(out, xs, ys, k)?;
+    join_second(out, xs, ys, k)?;
+    join_left(out, xs, ys, k)?;
+    Ok(growth(old, out))
 }
 
 // Whether the strings of a set that has members have 1 to k slots: the first has the fewest, and the last the most.
@@ -471,7 +422,7 @@ fn has_sizes(ys: &[u64], k: u64) -> bool
 }
 
 // Adds the join of two sets that have members to out: by runs where the strings of the second set have 1 to k slots.
-pub fn join_large(out: &mut [u64], xs: &[u64], ys: &[u64], k: u64) -> Grown
+pub fn join_large(out: &mut [u64], xs: &[u64], ys: &[u64], k: u64) -> Result<Grown, Refusal>
     requires { (IsSet out.old × (IsSet xs.now × IsSet ys.now)) × (AllJoinable k xs.now ys.now × ((0 < length (decode xs.now)) × (0 < length (decode ys.now)))) }
     ensures { Grew out.old out.new (add_all (pairs_of k (decode xs.now) (decode ys.now)) (decode out.old)) result }
 {

@@ -1,23 +1,23 @@
 -- Any two answers that meet the contract of a public function on strings are equal: an answer can be read back from what it is on paper. Assumes nothing.
 use mathlib.Core.Path.{◌≡◌, refl, sym, ap, ap₂, ◌∙◌}
-use mathlib.Core.Bool.{cond}
+use mathlib.Core.Bool.{Bool, true, false, cond}
 use mathlib.Core.List.{List}
 use Prim.Native.Nat.{ℕ}
+use native.Mathlib.Omega.{arith}
+use borrow.Author.Tests.{ne_eqb}
 use lib.Dec.{eqb}
 use lib.ListN.{get_or}
 use Rattle.k_tuple.specs.Packed.{reads}
 use Rattle.k_tuple.specs.Paper.{Paper, refused, gives, number_of, values_of}
-use Rattle.k_tuple.specs.Answers.{string_on_paper, width_on_paper, complete_on_paper, order_on_paper, width_answer, eps_answer, end_answer, make_answer, unpack_answer, complete_answer, cut_answer, push_answer, join_answer, order_answer}
+use Rattle.k_tuple.specs.Answers.{string_on_paper, width_on_paper, complete_on_paper, order_on_paper, UnpackedRecord, unpacked_record, width_answer, eps_answer, end_answer, make_answer, unpack_answer, complete_answer, cut_answer, push_answer, join_answer, order_answer}
 use Rattle.k_tuple.specs.declared.Terminals.{Terminals}
 use Rattle.k_tuple.specs.declared.Unpacked.{Unpacked}
-use Rattle.k_tuple.specs.declared.StringAnswer.{StringAnswer}
-use Rattle.k_tuple.specs.declared.StringAnswer.TheVariants as S
-use Rattle.k_tuple.specs.declared.WidthAnswer.{WidthAnswer}
-use Rattle.k_tuple.specs.declared.WidthAnswer.TheVariants as W
-use Rattle.k_tuple.specs.declared.CompleteAnswer.{CompleteAnswer}
-use Rattle.k_tuple.specs.declared.CompleteAnswer.TheVariants as C
-use Rattle.k_tuple.specs.declared.OrderAnswer.{OrderAnswer}
-use Rattle.k_tuple.specs.declared.OrderAnswer.TheVariants as O
+use Rattle.refusals.specs.Numbers.{number}
+use Rattle.refusals.specs.declared.Refusal.{Refusal}
+use Rattle.refusals.proofs.Numbers.{named, named-number, number-positive}
+use Rattle.std.specs.Prelude.{Result, Ok, Err}
+use Rattle.std.specs.declared.cmp.Ordering as O
+use Rattle.std.specs.declared.cmp.Ordering.TheVariants.{Less, Equal, Greater}
 
 -- at most one r has f r ≡ b
 abbrev pub One : {A B : Type 0} → (A → B) → B → Type 0
@@ -37,52 +37,61 @@ paper-known (gives u) (gives v) hp hq e f = ap gives f
 
 -- ---- answers are known by what they are on paper
 
-abbrev string-back : Paper → StringAnswer
-string-back (refused r z) = S.Refused r
-string-back (gives v) = S.Is (record { lo = get_or v 0 0; hi = get_or v 1 0 })
+-- a result's way back: the refusal of a number, or the value that numbers stand for
+abbrev result-back : {A : Type 0} → (List ℕ → A) → Paper → Result A Refusal
+result-back value (refused r z) = Err (named r)
+result-back value (gives v) = Ok (value v)
+
+refused-back : {A : Type 0} (e : Refusal) → ◌≡◌ {A = Result A Refusal} (Err (named (number e))) (Err e)
+refused-back e = ap Err (named-number e)
 
 pub string-known : (p : Paper) → One string_on_paper p
-string-known = known string_on_paper string-back way
+string-known = known string_on_paper (result-back (λ v. record { lo = get_or v 0 0; hi = get_or v 1 0 })) way
   where
-    way : (r : StringAnswer) → string-back (string_on_paper r) ≡ r
-    way (S.Is t) = refl
-    way (S.Refused n) = refl
-
-abbrev width_back : Paper → WidthAnswer
-width_back (refused r z) = W.Refused r
-width_back (gives v) = W.Bits (get_or v 0 0)
+    way : (r : Result Terminals Refusal) → result-back {A = Terminals} (λ v. record { lo = get_or v 0 0; hi = get_or v 1 0 }) (string_on_paper r) ≡ r
+    way (Ok t) = refl
+    way (Err e) = refused-back e
 
 pub width-known : (p : Paper) → One width_on_paper p
-width-known = known width_on_paper width_back way
+width-known = known width_on_paper (result-back (λ v. get_or v 0 0)) way
   where
-    way : (r : WidthAnswer) → width_back (width_on_paper r) ≡ r
-    way (W.Bits w) = refl
-    way (W.Refused n) = refl
+    way : (r : Result ℕ Refusal) → result-back (λ v. get_or v 0 0) (width_on_paper r) ≡ r
+    way (Ok w) = refl
+    way (Err e) = refused-back e
 
-abbrev complete-back : Paper → CompleteAnswer
-complete-back (refused r z) = C.Refused r
-complete-back (gives v) = cond (eqb (get_or v 0 0) 1) C.Yes C.No
+abbrev complete-value : List ℕ → Bool
+complete-value v = eqb (get_or v 0 0) 1
 
 pub complete-known : (p : Paper) → One complete_on_paper p
-complete-known = known complete_on_paper complete-back way
+complete-known = known complete_on_paper (result-back complete-value) way
   where
-    way : (r : CompleteAnswer) → complete-back (complete_on_paper r) ≡ r
-    way C.Yes = refl
-    way C.No = refl
-    way (C.Refused n) = refl
+    way : (r : Result Bool Refusal) → result-back complete-value (complete_on_paper r) ≡ r
+    way (Ok true) = refl
+    way (Ok false) = refl
+    way (Err e) = refused-back e
 
-abbrev order-back : Paper → OrderAnswer
-order-back (refused r z) = O.Refused r
-order-back (gives v) = cond (eqb (get_or v 0 0) 0) O.Less (cond (eqb (get_or v 0 0) 1) O.Equal O.Greater)
+abbrev order-value : List ℕ → O.Ordering
+order-value v = cond (eqb (get_or v 0 0) 0) Less (cond (eqb (get_or v 0 0) 1) Equal Greater)
 
 pub order-known : (p : Paper) → One order_on_paper p
-order-known = known order_on_paper order-back way
+order-known = known order_on_paper (result-back order-value) way
   where
-    way : (r : OrderAnswer) → order-back (order_on_paper r) ≡ r
-    way O.Less = refl
-    way O.Equal = refl
-    way O.Greater = refl
-    way (O.Refused n) = refl
+    way : (r : Result O.Ordering Refusal) → result-back order-value (order_on_paper r) ≡ r
+    way (Ok Less) = refl
+    way (Ok Equal) = refl
+    way (Ok Greater) = refl
+    way (Err e) = refused-back e
+
+-- a record unpacked: a refusal leaves zeros, and no refusal is 0
+abbrev unpacked-back : UnpackedRecord → Result Unpacked Refusal
+unpacked-back u = cond (eqb u.refused 0) (Ok (record { length = u.length; slots = u.slots })) (Err (named u.refused))
+
+pub unpacked-known : (u : UnpackedRecord) → One unpacked_record u
+unpacked-known = known unpacked_record unpacked-back way
+  where
+    way : (r : Result Unpacked Refusal) → unpacked-back (unpacked_record r) ≡ r
+    way (Ok u) = refl
+    way (Err e) = rw (ne_eqb (number e) 0 (λ z. omega (arith, number-positive e))) (refused-back e)
 
 -- ---- the functions, by their contracts
 
@@ -98,8 +107,8 @@ end-one m = string-known (end_answer m)
 pub make-one : (k m : ℕ) (ts : List ℕ) → One string_on_paper (make_answer k m ts)
 make-one k m ts = string-known (make_answer k m ts)
 
-pub unpack-one : (t : Terminals) → One (λ (r : Unpacked). r) (unpack_answer (reads t))
-unpack-one t r s e f = e ∙ sym f
+pub unpack-one : (t : Terminals) → One unpacked_record (unpack_answer (reads t))
+unpack-one t = unpacked-known (unpack_answer (reads t))
 
 pub complete-one : (k : ℕ) (t : Terminals) → One complete_on_paper (complete_answer k (reads t))
 complete-one k t = complete-known (complete_answer k (reads t))

@@ -8,38 +8,24 @@ use Prim.Native.Nat.{ℕ, zero, suc, ◌+◌, ◌-◌, ◌*◌, ◌≤◌, ◌<�
 use native.Mathlib.Nat.{not-suc-le-zero}
 use native.Mathlib.Numerals.{add-one}
 use native.Mathlib.Omega.{arith}
-use borrow.Author.Tests.{lt-ltb, le-ltb}
 use lib.ListN.{length, get_or, take, drop, set, replicate, length-append, length-drop, take-append-drop, drop_of_length-le, get_or-append}
 use lib.Seq.{take_all, take-length, take-suc, take-take, take-append-le, drop_at, drop-drop, get_or-take, length-take-le, sets-eq}
 use Rattle.k_tuple.specs.declared.Terminals.{Terminals}
-use Rattle.k_tuple.specs.Packed.{number_of, less_of}
 use Rattle.k_tuples.specs.declared.set.Grown.{Grown}
-use Rattle.k_tuples.specs.declared.set.Grown.TheVariants.{Added, Same as Unchanged, Full}
-use Rattle.k_tuples.specs.declared.merge.Side.{Side}
-use Rattle.k_tuples.specs.declared.merge.Side.TheVariants.{Below, Same, Above}
+use Rattle.k_tuples.specs.declared.set.Grown.TheVariants.{Added, Same}
+use Rattle.refusals.specs.declared.Refusal.{Refusal}
+use Rattle.std.specs.Prelude.{Ok, Err}
+use Rattle.refusals.specs.declared.Refusal.TheVariants.{SetTooLarge}
+use Rattle.std.specs.declared.cmp.Ordering.{Ordering}
+use Rattle.std.specs.declared.cmp.Ordering.TheVariants.{Less, Equal, Greater}
 use Rattle.k_tuples.specs.Members.{rising, rank, adding, add_all, has_of, kept_of, both_of, none_of}
-use Rattle.k_tuples.specs.Words.{flat, count_word, number_in, encode, member_at, decode, room_of, IsSet, Grew, grown_from, is_full}
+use Rattle.k_tuples.specs.Words.{Growth, flat, count_word, number_in, encode, member_at, decode, room_of, IsSet, Grew, grown_from}
 use Rattle.k_tuples.specs.Merging.{side_of, written, Begins, Merged, Passed}
 use Rattle.k_tuples.proofs.Rising.{rank-le, length-add_all}
 use Rattle.k_tuples.proofs.Words.{room-words, length-flat, flat_append, length-decode, get_d-decode, set_room, set-some, set_past, next-member, none_left}
 use Rattle.k_tuples.proofs.Inserting.{grown-full, grown-added, grew-idle}
 use Rattle.k_tuples.proofs.Filling.{Filling, kept_in, gives-kept, fill_more, fill-full, fill_end}
 use Rattle.k_tuples.proofs.Uniting.{Level, level-swap, level-rises, is_below, is-above, is_same, drop-rises, take-rises, add_none, first_below, first_above, first-same, add-behind, add-after, add-idle, length_most, ◌then◌, last-below, last-above, last-same, none_below, none_above, none-same, none-in-none, none_passed, has_same, both_below, both-above, both-past, both-with-none, both-passed}
-
--- ---- `compare`
-
-module _ (x y : Terminals) where
-  pub side-below : number_of x < number_of y → Below ≡ side_of x y
-  unfolding side_of less_of
-  side-below h = sym (rw (lt-ltb (number_of x) (number_of y) h))
-
-  pub side-above : number_of y < number_of x → Above ≡ side_of x y
-  unfolding side_of less_of
-  side-above h = sym (rw (le-ltb (number_of x) (number_of y) (omega arith), lt-ltb (number_of y) (number_of x) h))
-
-  pub side_same : number_of x ≡ number_of y → Same ≡ side_of x y
-  unfolding side_of less_of
-  side_same e = sym (rw (le-ltb (number_of x) (number_of y) (omega arith), le-ltb (number_of y) (number_of x) (omega arith)))
 
 -- ---- words that members are written into
 
@@ -183,7 +169,7 @@ count-start {a} {b} {old} {n} {p} sa sb g e f =
       size = omega (arith, u);
     }
 
-module _ {a b : List ℕ} {old n i j new : ℕ} {x y : Terminals} {r : Side} (c : Counting a b old n i j new) (turn : i < old) (left : j < n)
+module _ {a b : List ℕ} {old n i j new : ℕ} {x y : Terminals} {r : Ordering} (c : Counting a b old n i j new) (turn : i < old) (left : j < n)
     (ax : x ≡ member_at a (2 * i + 1)) (ay : y ≡ member_at b (2 * j + 1)) (told : r ≡ side_of x y) where
   at_a : drop i (decode a) ≡ x ∷ drop (i + 1) (decode a)
   at_a = next-member a c.first turn ax
@@ -197,7 +183,7 @@ module _ {a b : List ℕ} {old n i j new : ℕ} {x y : Terminals} {r : Side} (c 
   now-is : add_all (drop j (decode b)) (drop i (decode a)) ≡ add_all (y ∷ drop (j + 1) (decode b)) (x ∷ drop (i + 1) (decode a))
   now-is = ap₂ add_all at_b at_a
 
-  pub count-below : r ≡ Below → Counting a b old n (i + 1) j new
+  pub count-below : r ≡ Less → Counting a b old n (i + 1) j new
   count-below e =
       let s : add_all (drop j (decode b)) (drop i (decode a)) ≡ x ∷ add_all (drop j (decode b)) (drop (i + 1) (decode a)) =
       now-is ∙ first_below x y (drop (i + 1) (decode a)) (drop (j + 1) (decode b)) left-b (is_below x y (sym told ∙ e))
@@ -215,7 +201,7 @@ module _ {a b : List ℕ} {old n i j new : ℕ} {x y : Terminals} {r : Side} (c 
         size = omega (arith, c.size, ap length s);
       }
 
-  pub count_same : r ≡ Same → Counting a b old n (i + 1) (j + 1) new
+  pub count_same : r ≡ Equal → Counting a b old n (i + 1) (j + 1) new
   count_same e =
       let s : add_all (drop j (decode b)) (drop i (decode a)) ≡ x ∷ add_all (drop (j + 1) (decode b)) (drop (i + 1) (decode a)) =
       now-is ∙ first-same x y (drop (i + 1) (decode a)) (drop (j + 1) (decode b)) left-b (is_same x y (sym told ∙ e)) in
@@ -232,7 +218,7 @@ module _ {a b : List ℕ} {old n i j new : ℕ} {x y : Terminals} {r : Side} (c 
         size = omega (arith, c.size, ap length s);
       }
 
-  pub count-above : r ≡ Above → Counting a b old n i (j + 1) (new + 1)
+  pub count-above : r ≡ Greater → Counting a b old n i (j + 1) (new + 1)
   count-above e =
       let s : add_all (drop j (decode b)) (drop i (decode a)) ≡ y ∷ add_all (drop (j + 1) (decode b)) (drop i (decode a)) =
       now-is ∙ first_above x y (drop (i + 1) (decode a)) (drop (j + 1) (decode b)) left-b (is-above x y (sym told ∙ e))
@@ -361,7 +347,7 @@ module _ {a b ws : List ℕ} {p i j m : ℕ} (k : Backing a b p i j m ws) where
         as_long = ap length is' ∙ length-written (m - 1) (z ∷ k.done) a room';
       }
 
-  module _ {x y : Terminals} {r : Side} (turn : p < i) (more : i < m) (ax : x ≡ member_at ws (2 * i - 1)) (ay : y ≡ member_at b (2 * j - 1)) (told : r ≡ side_of x y) where
+  module _ {x y : Terminals} {r : Ordering} (turn : p < i) (more : i < m) (ax : x ≡ member_at ws (2 * i - 1)) (ay : y ≡ member_at b (2 * j - 1)) (told : r ≡ side_of x y) where
     last-a : take i (decode a) ≡ take (i - 1) (decode a) then x
     last-a =
         last_of a i x (omega arith) k.first
@@ -376,20 +362,20 @@ module _ {a b ws : List ℕ} {p i j m : ℕ} (k : Backing a b p i j m ws) where
     rises-to-b : rising (take (j - 1) (decode b) then y) ≡ true
     rises-to-b = subst (λ (l : List Terminals). rising l ≡ true) last-b (take-rises j (decode b) k.rises-b)
 
-    pub back_below : {ws' : List ℕ} → r ≡ Below → ws' ≡ written (m - 1) (y ∷ []) ws → Backing a b p i (j - 1) (m - 1) ws'
+    pub back_below : {ws' : List ℕ} → r ≡ Less → ws' ≡ written (m - 1) (y ∷ []) ws → Backing a b p i (j - 1) (m - 1) ws'
     back_below e w =
         back_more i (j - 1) y k.from k.first (omega (arith, k.second))
         (ap₂ add_all last-b last-a ∙ last-below x y (take (i - 1) (decode a)) (take (j - 1) (decode b)) rises-to-a rises-to-b (is_below x y (sym told ∙ e))
         ∙ ap (λ (l : List Terminals). add_all (take (j - 1) (decode b)) l then y) (sym last-a))
         w
 
-    pub back-same : {ws' : List ℕ} → r ≡ Same → ws' ≡ written (m - 1) (x ∷ []) ws → Backing a b p (i - 1) (j - 1) (m - 1) ws'
+    pub back-same : {ws' : List ℕ} → r ≡ Equal → ws' ≡ written (m - 1) (x ∷ []) ws → Backing a b p (i - 1) (j - 1) (m - 1) ws'
     back-same e w =
         back_more (i - 1) (j - 1) x (omega arith) (omega (arith, k.first)) (omega (arith, k.second))
         (ap₂ add_all last-b last-a ∙ last-same x y (take (i - 1) (decode a)) (take (j - 1) (decode b)) rises-to-a rises-to-b (is_same x y (sym told ∙ e)))
         w
 
-    pub back_above : {ws' : List ℕ} → r ≡ Above → ws' ≡ written (m - 1) (x ∷ []) ws → Backing a b p (i - 1) j (m - 1) ws'
+    pub back_above : {ws' : List ℕ} → r ≡ Greater → ws' ≡ written (m - 1) (x ∷ []) ws → Backing a b p (i - 1) j (m - 1) ws'
     back_above e w =
         back_more (i - 1) j x (omega arith) (omega (arith, k.first)) k.second
         (ap₂ add_all last-b last-a ∙ last-above x y (take (i - 1) (decode a)) (take (j - 1) (decode b)) rises-to-a rises-to-b (is-above x y (sym told ∙ e))
@@ -455,12 +441,12 @@ module _ {a b ws : List ℕ} {p i j m : ℕ} (k : Backing a b p i j m ws) where
 pub begin-at : {x : Terminals} {p : ℕ} (a b : List ℕ) → 0 < length (decode b) → x ≡ member_at b (2 * 0 + 1) → p ≡ rank x (decode a) → Begins a b p
 begin-at a b h e f = record { some = h; place = f ∙ ap (λ (t : Terminals). rank t (decode a)) e }
 
-pub unite-full : {n m : ℕ} {new : List Terminals} (ws : List ℕ) → n ≡ length new → m ≡ room_of (length ws) → m < n → Grew ws ws new Full
+pub unite-full : {n m : ℕ} {new : List Terminals} (ws : List ℕ) → n ≡ length new → m ≡ room_of (length ws) → m < n → Grew ws ws new (Err SetTooLarge)
 unite-full ws e f h = record { answer = sym (grown-full _ _ _ (omega arith)); words = λ l. absurd (omega arith) }
 
-pub unite-same : {n c : ℕ} (a b : List ℕ) → IsSet a → n ≡ length (add_all (decode b) (decode a)) → c ≡ length (decode a) → n ≤ c → Grew a a (add_all (decode b) (decode a)) Unchanged
+pub unite-same : {n c : ℕ} (a b : List ℕ) → IsSet a → n ≡ length (add_all (decode b) (decode a)) → c ≡ length (decode a) → n ≤ c → Grew a a (add_all (decode b) (decode a)) (Ok Same)
 unite-same a b s e f h =
-    subst (λ (l : List Terminals). Grew a a l Unchanged) (sym (add-idle (decode b) (decode a) (omega arith))) (grew-idle s)
+    subst (λ (l : List Terminals). Grew a a l (Ok Same)) (sym (add-idle (decode b) (decode a) (omega arith))) (grew-idle s)
 
 -- what is written stands behind the count word
 written-number : (n : ℕ) (ms : List Terminals) (ws : List ℕ) → 1 ≤ length ws → number_in (written n ms ws) ≡ number_in ws
@@ -487,7 +473,7 @@ merged-words {a} {ws} {all} n s g e h =
     ∙ ap (λ (q : ℕ). count_word (number_in a) q ∷ (flat all ++ replicate (length a - (2 * q + 1)) 0)) e
 
 pub unite-added : {n m c : ℕ} {a ws exit : List ℕ} (b : List ℕ) → IsSet a → n ≡ length (add_all (decode b) (decode a)) → m ≡ room_of (length a) → n ≤ m → c ≡ length (decode a) → c < n
-    → Merged a (add_all (decode b) (decode a)) ws → exit ≡ set ws 0 (count_word (number_in ws) n) → Grew a exit (add_all (decode b) (decode a)) Added
+    → Merged a (add_all (decode b) (decode a)) ws → exit ≡ set ws 0 (count_word (number_in ws) n) → Grew a exit (add_all (decode b) (decode a)) (Ok Added)
 unite-added {n} b s e most room f h g x = record {
   answer = sym (grown-added _ _ _ (omega arith) (omega arith));
   words = λ l. x ∙ merged-words n s g e (omega arith);
@@ -514,7 +500,7 @@ pub record Meeting (a b : List ℕ) (answer : Bool) (n m i j : ℕ) : Type 0 whe
 pub meet-start : {a b : List ℕ} {n m j : ℕ} → IsSet a → n ≡ length (decode a) → m ≡ length (decode b) → Passed (decode a) (decode b) j → Meeting a b (none_of (decode a) (decode b)) n m 0 j
 meet-start {a} {b} {j = j} s e f p = record { rises-a = s.rises; first = e; second = f; left = none_passed (decode a) (decode b) j s.rises p }
 
-module _ {a b : List ℕ} {answer : Bool} {n m i j : ℕ} {x y : Terminals} {r : Side} (k : Meeting a b answer n m i j) (turn : i < n) (more : j < m)
+module _ {a b : List ℕ} {answer : Bool} {n m i j : ℕ} {x y : Terminals} {r : Ordering} (k : Meeting a b answer n m i j) (turn : i < n) (more : j < m)
     (ax : x ≡ member_at a (2 * i + 1)) (ay : y ≡ member_at b (2 * j + 1)) (told : r ≡ side_of x y) where
   next-a : drop i (decode a) ≡ x ∷ drop (i + 1) (decode a)
   next-a = next-member a k.first turn ax
@@ -528,7 +514,7 @@ module _ {a b : List ℕ} {answer : Bool} {n m i j : ℕ} {x y : Terminals} {r :
   is-left : answer ≡ none_of (x ∷ drop (i + 1) (decode a)) (y ∷ drop (j + 1) (decode b))
   is-left = k.left ∙ ap₂ none_of next-a next-b
 
-  pub meet_below : r ≡ Below → Meeting a b answer n m (i + 1) j
+  pub meet_below : r ≡ Less → Meeting a b answer n m (i + 1) j
   meet_below e = record {
     rises-a = k.rises-a;
     first = k.first;
@@ -536,7 +522,7 @@ module _ {a b : List ℕ} {answer : Bool} {n m i j : ℕ} {x y : Terminals} {r :
     left = is-left ∙ none_below x y (drop (i + 1) (decode a)) (drop (j + 1) (decode b)) rises-on (is_below x y (sym told ∙ e)) ∙ ap (none_of (drop (i + 1) (decode a))) (sym next-b);
   }
 
-  pub meet-above : r ≡ Above → Meeting a b answer n m i (j + 1)
+  pub meet-above : r ≡ Greater → Meeting a b answer n m i (j + 1)
   meet-above e = record {
     rises-a = k.rises-a;
     first = k.first;
@@ -545,7 +531,7 @@ module _ {a b : List ℕ} {answer : Bool} {n m i j : ℕ} {x y : Terminals} {r :
         ∙ ap (λ (l : List Terminals). none_of l (drop (j + 1) (decode b))) (sym next-a);
   }
 
-  pub meet-same : r ≡ Same → false ≡ answer
+  pub meet-same : r ≡ Equal → false ≡ answer
   meet-same e = sym (is-left ∙ none-same x y (drop (i + 1) (decode a)) (drop (j + 1) (decode b)) rises-on (is_same x y (sym told ∙ e)))
 
 module _ {a b : List ℕ} {answer : Bool} {n m i j : ℕ} (k : Meeting a b answer n m i j) where
@@ -596,7 +582,7 @@ share-on {ws = ws} i' j' k e =
       };
     }
 
-module _ {a b entry ws : List ℕ} {goal : List Terminals} {n m old i j : ℕ} {x y : Terminals} {r : Side} (k : Sharing a b entry goal n m old i j ws) (turn : i < n) (more : j < m)
+module _ {a b entry ws : List ℕ} {goal : List Terminals} {n m old i j : ℕ} {x y : Terminals} {r : Ordering} (k : Sharing a b entry goal n m old i j ws) (turn : i < n) (more : j < m)
     (ax : x ≡ member_at a (2 * i + 1)) (ay : y ≡ member_at b (2 * j + 1)) (told : r ≡ side_of x y) where
   read_a : drop i (decode a) ≡ x ∷ drop (i + 1) (decode a)
   read_a = next-member a k.filling.counted turn ax
@@ -607,18 +593,18 @@ module _ {a b entry ws : List ℕ} {goal : List Terminals} {n m old i j : ℕ} {
   rises-from : rising (x ∷ drop (i + 1) (decode a)) ≡ true
   rises-from = subst (λ (l : List Terminals). rising l ≡ true) read_a (drop-rises i (decode a) k.rises-a)
 
-  pub share-below : r ≡ Below → Sharing a b entry goal n m old (i + 1) j ws
+  pub share-below : r ≡ Less → Sharing a b entry goal n m old (i + 1) j ws
   share-below e =
       share-on (i + 1) j k
       (ap₂ both_of read_a read-b ∙ both_below x y (drop (i + 1) (decode a)) (drop (j + 1) (decode b)) rises-from (is_below x y (sym told ∙ e)) ∙ ap (both_of (drop (i + 1) (decode a))) (sym read-b))
 
-  pub share-above : r ≡ Above → Sharing a b entry goal n m old i (j + 1) ws
+  pub share-above : r ≡ Greater → Sharing a b entry goal n m old i (j + 1) ws
   share-above e =
       share-on i (j + 1) k
       (ap₂ both_of read_a read-b ∙ both-above x y (drop (i + 1) (decode a)) (drop (j + 1) (decode b)) rises-from (is-above x y (sym told ∙ e))
       ∙ ap (λ (l : List Terminals). both_of l (drop (j + 1) (decode b))) (sym read_a))
 
-  module _ {exit : List ℕ} {g : Grown} {full : Bool} (e : r ≡ Same) (grew : Grew ws exit (adding x (decode ws)) g) (asked : full ≡ is_full g) where
+  module _ {exit : List ℕ} {g : Growth} (e : r ≡ Equal) (grew : Grew ws exit (adding x (decode ws)) g) where
     level : Level x y
     level = is_same x y (sym told ∙ e)
 
@@ -628,20 +614,20 @@ module _ {a b entry ws : List ℕ} {goal : List Terminals} {n m old i j : ℕ} {
     kept : Grew ws exit (add_all (kept_of (member_at a (2 * i + 1)) (drop j (decode b))) (decode ws)) g
     kept = gives-kept (member_at a (2 * i + 1)) ax (drop j (decode b)) has-it refl grew
 
-    pub share-full : full ≡ true → Grew entry exit goal Full
-    share-full t = fill-full k.filling turn kept asked t
+    pub share-full : {d : Refusal} {q : Growth} → g ≡ Err d → q ≡ Err d → Grew entry exit goal q
+    share-full t u = fill-full k.filling turn kept t u
 
-    pub share-more : full ≡ false → Sharing a b entry goal n m old (i + 1) (j + 1) exit
+    pub share-more : {t : Grown} → g ≡ Ok t → Sharing a b entry goal n m old (i + 1) (j + 1) exit
     share-more t =
-        share-on {j = j} (i + 1) (j + 1) (record { rises-a = k.rises-a; second = k.second; filling = fill_more k.filling turn kept asked t })
+        share-on {j = j} (i + 1) (j + 1) (record { rises-a = k.rises-a; second = k.second; filling = fill_more k.filling turn kept t })
         (ap (both_of (drop (i + 1) (decode a))) read-b ∙ both-past y (drop (j + 1) (decode b)) (drop (i + 1) (decode a)) (level-rises (drop (i + 1) (decode a)) (level-swap level) rises-from))
 
 module _ {a b entry ws : List ℕ} {goal : List Terminals} {n m old i j : ℕ} {r : Grown} (k : Sharing a b entry goal n m old i j ws) where
-  pub share-end : n ≤ i → r ≡ grown_from old (length (decode ws)) → Grew entry ws goal r
+  pub share-end : n ≤ i → r ≡ grown_from old (length (decode ws)) → Grew entry ws goal (Ok r)
   share-end h e = fill_end k.filling h e
 
   -- nothing is left of b: then it is as if nothing were left of a
-  pub share-stop : m ≤ j → r ≡ grown_from old (length (decode ws)) → Grew entry ws goal r
+  pub share-stop : m ≤ j → r ≡ grown_from old (length (decode ws)) → Grew entry ws goal (Ok r)
   share-stop h e =
       let none : both_of (drop i (decode a)) (drop j (decode b)) ≡ both_of (drop n (decode a)) (drop j (decode b)) =
       ap (both_of (drop i (decode a))) (none_left b k.second h) ∙ both-with-none (drop i (decode a))

@@ -1,6 +1,6 @@
 -- Any two answers, and any two contents of the output, that meet the contract of a public function on sets are equal. Assumes nothing.
-use mathlib.Core.Path.{◌≡◌, refl, sym, ◌∙◌}
-use mathlib.Core.Bool.{cond}
+use mathlib.Core.Path.{◌≡◌, refl, sym, ap, ◌∙◌}
+use mathlib.Core.Bool.{Bool, true, false, cond}
 use mathlib.Core.List.{List}
 use Prim.Native.Nat.{ℕ}
 use lib.Dec.{eqb}
@@ -8,49 +8,48 @@ use lib.ListN.{length, get_or}
 use Rattle.k_tuple.specs.Paper.{Paper, refused, gives}
 use Rattle.k_tuple.proofs.One.{One, known}
 use Rattle.k_tuples.specs.Answers.{union_on_paper, set_on_paper, test_on_paper, union_answer, union_words, intersect_answer, intersect_words, disjoint_answer, complete_answer}
-use Rattle.k_tuples.specs.declared.UnionAnswer.{UnionAnswer}
-use Rattle.k_tuples.specs.declared.UnionAnswer.TheVariants as U
-use Rattle.k_tuples.specs.declared.SetAnswer.{SetAnswer}
-use Rattle.k_tuples.specs.declared.SetAnswer.TheVariants as S
-use Rattle.k_tuples.specs.declared.TestAnswer.{TestAnswer}
-use Rattle.k_tuples.specs.declared.TestAnswer.TheVariants as T
+use Rattle.k_tuples.specs.Words.{Growth}
+use Rattle.k_tuples.specs.declared.set.Grown.TheVariants.{Added, Same}
+use Rattle.refusals.specs.declared.Refusal.{Refusal}
+use Rattle.refusals.proofs.Numbers.{named, named-number}
+use Rattle.std.specs.Prelude.{Result, Ok, Err}
 
 -- ---- answers are known by what they are on paper
 
-abbrev union-back : Paper → UnionAnswer
-union-back (refused r z) = U.Refused r
-union-back (gives v) = cond (eqb (get_or v 0 0) 1) U.Added U.Same
+abbrev union-back : Paper → Growth
+union-back (refused r z) = Err (named r)
+union-back (gives v) = cond (eqb (get_or v 0 0) 1) (Ok Added) (Ok Same)
 
 pub union-known : (p : Paper) → One union_on_paper p
 union-known = known union_on_paper union-back way
   where
-    way : (r : UnionAnswer) → union-back (union_on_paper r) ≡ r
-    way U.Added = refl
-    way U.Same = refl
-    way (U.Refused n) = refl
+    way : (r : Growth) → union-back (union_on_paper r) ≡ r
+    way (Ok Added) = refl
+    way (Ok Same) = refl
+    way (Err e) = ap (λ (d : Refusal). Err d) (named-number e)
 
-abbrev set_back : Paper → SetAnswer
-set_back (refused r z) = S.Refused r
-set_back (gives v) = S.Done
+abbrev set_back : Paper → Result (Unit {0}) Refusal
+set_back (refused r z) = Err (named r)
+set_back (gives v) = Ok tt
 
 pub set_known : (p : Paper) → One set_on_paper p
 set_known = known set_on_paper set_back way
   where
-    way : (r : SetAnswer) → set_back (set_on_paper r) ≡ r
-    way S.Done = refl
-    way (S.Refused n) = refl
+    way : (r : Result (Unit {0}) Refusal) → set_back (set_on_paper r) ≡ r
+    way (Ok tt) = refl
+    way (Err e) = ap (λ (d : Refusal). Err d) (named-number e)
 
-abbrev test_back : Paper → TestAnswer
-test_back (refused r z) = T.Refused r
-test_back (gives v) = cond (eqb (get_or v 0 0) 1) T.Yes T.No
+abbrev test_back : Paper → Result Bool Refusal
+test_back (refused r z) = Err (named r)
+test_back (gives v) = Ok (eqb (get_or v 0 0) 1)
 
 pub test_known : (p : Paper) → One test_on_paper p
 test_known = known test_on_paper test_back way
   where
-    way : (r : TestAnswer) → test_back (test_on_paper r) ≡ r
-    way T.Yes = refl
-    way T.No = refl
-    way (T.Refused n) = refl
+    way : (r : Result Bool Refusal) → test_back (test_on_paper r) ≡ r
+    way (Ok true) = refl
+    way (Ok false) = refl
+    way (Err e) = ap (λ (d : Refusal). Err d) (named-number e)
 
 -- the contents of lent words
 abbrev pub OneWords : List ℕ → Type 0

@@ -5,15 +5,15 @@ use mathlib.Core.List.{List, [], ◌∷◌, ◌++◌}
 use mathlib.Core.Logic.{◌⊎◌, inl, inr, ⊎_elim}
 use Prim.Native.Nat.{ℕ, zero, suc, ◌+◌, ◌≤◌, ◌<◌}
 use native.Mathlib.Omega.{arith}
-use borrow.Author.Tests.{ltb-true, ltb-false, lt-ltb, ne_eqb, eq-eqb}
-use lib.Dec.{ltb}
+use borrow.Author.Tests.{ltb-true, ltb-false, lt-ltb, le-ltb, ne_eqb, eq-eqb, eqb-true, eqb-false}
+use lib.Dec.{ltb, eqb}
 use lib.ListN.{length, get_or, take, drop}
 use Rattle.k_tuple.specs.declared.Terminals.{Terminals}
 use Rattle.k_tuple.specs.Packed.{number_of, less_of}
 use Rattle.k_tuple.proofs.Ordered.{ltb-like}
-use Rattle.k_tuples.specs.declared.merge.Side.TheVariants.{Below, Same, Above}
+use Rattle.std.specs.declared.cmp.Ordering.TheVariants.{Less, Equal, Greater}
 use Rattle.k_tuples.specs.Members.{before, rising, rank, adding, add_all, same_member, has_of, both_of, none_of}
-use Rattle.k_tuples.specs.Merging.{pick_side, side_of, Passed}
+use Rattle.k_tuples.specs.Merging.{side_of, Passed}
 use Rattle.k_tuples.proofs.Rising.{both, less-trans, rising-add_all, length-add_all, add_all-append}
 
 -- ---- where two members stand
@@ -40,32 +40,37 @@ unfolding less_of
 level-number {x} {y} l = omega (arith, ltb-false (number_of x) (number_of y) l.not-below, ltb-false (number_of y) (number_of x) l.not-above)
 
 module _ (x y : Terminals) where
-  pub is_below : side_of x y ≡ Below → less_of x y ≡ true
-  unfolding side_of
-  is_below = by (less_of x y) (less_of y x)
+  pub is_below : side_of x y ≡ Less → less_of x y ≡ true
+  unfolding side_of less_of
+  is_below = by (ltb (number_of x) (number_of y)) (eqb (number_of x) (number_of y))
     where
-      by : (s t : Bool) → pick_side s t ≡ Below → s ≡ true
+      by : (s t : Bool) → cond s Less (cond t Equal Greater) ≡ Less → s ≡ true
       by true t e = refl
-      by false true e = absurd (let z : ◌≡◌ {A = ℕ} 0 1 = cc in omega arith)
-      by false false e = absurd (let z : ◌≡◌ {A = ℕ} 0 1 = cc in omega arith)
+      by false true e = absurd (cc)
+      by false false e = absurd (cc)
 
-  pub is-above : side_of x y ≡ Above → less_of y x ≡ true
-  unfolding side_of
-  is-above = by (less_of x y) (less_of y x)
+  pub is-above : side_of x y ≡ Greater → less_of y x ≡ true
+  unfolding side_of less_of
+  is-above = by (ltb (number_of x) (number_of y)) (eqb (number_of x) (number_of y)) refl refl
     where
-      by : (s t : Bool) → pick_side s t ≡ Above → t ≡ true
-      by true t e = absurd (let z : ◌≡◌ {A = ℕ} 0 1 = cc in omega arith)
-      by false true e = refl
-      by false false e = absurd (let z : ◌≡◌ {A = ℕ} 0 1 = cc in omega arith)
+      by : (s t : Bool) → ltb (number_of x) (number_of y) ≡ s → eqb (number_of x) (number_of y) ≡ t → cond s Less (cond t Equal Greater) ≡ Greater → ltb (number_of y) (number_of x) ≡ true
+      by true t a b e = absurd (cc)
+      by false true a b e = absurd (cc)
+      by false false a b e =
+          let h = ltb-false (number_of x) (number_of y) a in
+          let n = eqb-false (number_of x) (number_of y) b in
+          lt-ltb (number_of y) (number_of x) (omega arith)
 
-  pub is_same : side_of x y ≡ Same → Level x y
-  unfolding side_of
-  is_same e = let p = by (less_of x y) (less_of y x) e in record { not-below = p.0; not-above = p.1 }
+  pub is_same : side_of x y ≡ Equal → Level x y
+  unfolding side_of less_of
+  is_same = by (ltb (number_of x) (number_of y)) (eqb (number_of x) (number_of y)) refl refl
     where
-      by : (s t : Bool) → pick_side s t ≡ Same → (s ≡ false) × (t ≡ false)
-      by true t e = absurd (let z : ◌≡◌ {A = ℕ} 0 1 = cc in omega arith)
-      by false true e = absurd (let z : ◌≡◌ {A = ℕ} 0 1 = cc in omega arith)
-      by false false e = (refl, refl)
+      by : (s t : Bool) → ltb (number_of x) (number_of y) ≡ s → eqb (number_of x) (number_of y) ≡ t → cond s Less (cond t Equal Greater) ≡ Equal → Level x y
+      by true t a b e = absurd (cc)
+      by false true a b e =
+          let h = eqb-true (number_of x) (number_of y) b in
+          record { not-below = a; not-above = le-ltb (number_of y) (number_of x) (omega arith) }
+      by false false a b e = absurd (cc)
 
 -- ---- rising lists
 

@@ -5,9 +5,8 @@ use Rattle.std.proofs.Math.Seq.{slice}
 use Rattle.k_tuple.specs.declared.Terminals.{Terminals}
 use Rattle.k_tuple.specs.Strings.{Str, count_field}
 use Rattle.k_tuple.specs.Packed.{packed, number_of, less_of, reads, complete_in}
-use Rattle.k_tuples.specs.declared.set.Grown.{Grown}
 use Rattle.k_tuples.specs.Members.{rank, open_of}
-use Rattle.k_tuples.specs.Words.{member_at, number_in, count_in, encode, decode, is_full}
+use Rattle.k_tuples.specs.Words.{member_at, number_in, count_in, encode, decode, Growth, is_full}
 use Rattle.k_tuples.specs.Sets.{Sorted}
 use Rattle.k_tuples.specs.Held.{AllFit, first_width, strings, holds_counted}
 
@@ -37,11 +36,11 @@ pub record Class (ws : List ℕ) (i j : ℕ) : Type 0 where
   pub like : (k : ℕ) → complete_in k (reads (member_at ws (2 * i + 1))) ≡ false → open_of k (drop i (decode ws)) ≡ (j - i) + open_of k (drop j (decode ws))
 
 -- zeros instead of words that did not take the set
-abbrev pub or_zeros : Grown → List ℕ → List ℕ
+abbrev pub or_zeros : Growth → List ℕ → List ℕ
 or_zeros g ws = cond (is_full g) (replicate (length ws) 0) ws
 
 -- words with the number that is true at k, unless the set had no room
-abbrev pub finished : ℕ → Grown → List ℕ → List ℕ
+abbrev pub finished : ℕ → Growth → List ℕ → List ℕ
 finished k g ws = cond (is_full g) ws (encode (open_of k (decode ws)) (length ws) (decode ws))
 
 -- words that hold the set a at k, of width w, with any number

@@ -1,20 +1,15 @@
 -- The vocabulary of src/merge.rt: where two members stand to each other, and words that members are written into. No public promise names any of it. Assumes nothing.
-use Rattle.std.specs.Prelude.{◌≡◌, Bool, true, false, List, [], ◌∷◌, ◌++◌, ℕ, ◌+◌, ◌*◌, ◌≤◌, ◌<◌, length, take, drop}
+use Rattle.std.specs.Prelude.{◌≡◌, List, [], ◌∷◌, ◌++◌, ℕ, ◌+◌, ◌*◌, ◌≤◌, ◌<◌, length, take, drop}
 use Rattle.k_tuple.specs.declared.Terminals.{Terminals}
-use Rattle.k_tuple.specs.Packed.{less_of}
-use Rattle.k_tuples.specs.declared.merge.Side.{Side}
-use Rattle.k_tuples.specs.declared.merge.Side.TheVariants.{Below, Same, Above}
+use Rattle.k_tuple.specs.Packed.{number_of}
+use Rattle.std.specs.declared.cmp.Ordering.{Ordering}
+use Rattle.std.specs.Ordering.{nat_cmp}
 use Rattle.k_tuples.specs.Members.{rank}
 use Rattle.k_tuples.specs.Words.{flat, member_at, decode}
 
-abbrev pub pick_side : (below above : Bool) → Side
-pick_side true above = Below
-pick_side false true = Above
-pick_side false false = Same
-
 -- on which side of y the member x stands, by their numbers
-unfoldable pub side_of : Terminals → Terminals → Side
-side_of x y = pick_side (less_of x y) (less_of y x)
+unfoldable pub side_of : Terminals → Terminals → Ordering
+side_of x y = nat_cmp (number_of x) (number_of y)
 
 -- words with the members ms written from place n on
 unfoldable pub written : ℕ → List Terminals → List ℕ → List ℕ

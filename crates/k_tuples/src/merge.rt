@@ -6,32 +6,18 @@ ghost use Rattle.k_tuples.specs.Merging.{side_of, written, Begins, Merged, Passe
 
 use crate::set::{Grown, copy_front, count, member, place, read, room, set_count};
 use k_tuple::Terminals;
-
-// Where the number of one member stands to that of another.
-#[derive(Clone, Copy)]
-pub enum Side {
-    Below,
-    Same,
-    Above,
-}
+use refusals::Refusal;
+use std::cmp::Ordering;
 
 // Where x stands to y, by their words: the high ones first.
-pub fn compare(x: Terminals, y: Terminals) -> Side
+pub fn compare(x: Terminals, y: Terminals) -> Ordering
     ensures { result ≡ side_of x y }
 {
     if x.hi == y.hi {
-        if x.lo == y.lo {
-            return Side::Same;
-        }
-        if x.lo < y.lo {
-            return Side::Below;
-        }
-        return Side::Above;
+        x.lo.cmp(&y.lo)
+    } else {
+        x.hi.cmp(&y.hi)
     }
-    if x.hi < y.hi {
-        return Side::Below;
-    }
-    Side::Above
 }
 
 // How many members the union of two sets has. Members p of dst come before the first of src: the walk begins behind them.
@@ -51,14 +37,14 @@ fn union_count(dst: &[u64], src: &[u64], p: usize) -> usize
         let x = member(dst, i);
         let y = member(src, j);
         match compare(x, y) {
-            Side::Below => {
+            Ordering::Less => {
                 i += 1;
             }
-            Side::Same => {
+            Ordering::Equal => {
                 i += 1;
                 j += 1;
             }
-            Side::Above => {
+            Ordering::Greater => {
                 j += 1;
                 new += 1;
             }
@@ -102,16 +88,16 @@ fn merge_back(dst: &mut [u64], src: &[u64], p: usize, n: usize)
         let y = read(src, 2 * j - 1);
         m -= 1;
         match compare(x, y) {
-            Side::Below => {
+            Ordering::Less => {
                 put(dst, m, y);
                 j -= 1;
             }
-            Side::Same => {
+            Ordering::Equal => {
                 put(dst, m, x);
                 i -= 1;
                 j -= 1;
             }
-            Side::Above => {
+            Ordering::Greater => {
                 put(dst, m, x);
                 i -= 1;
             }
@@ -132,19 +118,19 @@ pub fn start(a: &[u64], b: &[u64]) -> usize
 }
 
 // Adds every member of src, which has some, to dst.
-pub fn unite(dst: &mut [u64], src: &[u64]) -> Grown
+pub fn unite(dst: &mut [u64], src: &[u64]) -> Result<Grown, Refusal>
     requires { (IsSet dst.old × IsSet src.now) × (0 < length (decode src.now)) }
     ensures { Grew dst.old dst.new (add_all (decode src.now) (decode dst.old)) result }
 {
     let p = place(dst, member(src, 0));
     let n = union_count(dst, src, p);
     if room(dst.len()) < n {
-        return Grown::Full;
+        return Err(Refusal::SetTooLarge);
     }
     if n <= count(dst) {
-        return Grown::Same;
+        return Ok(Grown::Same);
     }
     merge_back(dst, src, p, n);
     set_count(dst, n);
-    Grown::Added
+    Ok(Grown::Added)
 }

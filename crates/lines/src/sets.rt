@@ -1,15 +1,11 @@
 // Sets as lines: the members in their order, each as its slots in brackets.
-ghost use Rattle.std.specs.Prelude.{IfOk, OnErr};
-ghost use Rattle.lines.specs.Waits.{Waits};
-
-use crate::text::{put, put_number, put_text};
-use crate::wide;
 use k_tuples::set::counted;
 use lookahead::{Terminals, set_of};
-use std::io;
+use std::io::Write;
+use std::{fmt, io};
 
 // How many sets a result has, and the member room of each: what asking for one set names.
-#[derive(Clone, Copy)]
+#[derive(Clone, Copy, Debug, PartialEq, Eq)]
 pub struct Sizes {
     pub n: usize,
     pub p: usize,
@@ -17,107 +13,70 @@ pub struct Sizes {
     pub c: usize,
 }
 
-// One slot; e is ε.
-fn put_slot(rt: &impl Print, out: &mut [u8], at: usize, slot: u16) -> io::Result<usize>
-    requires { Waits at out.old }
-    ensures ok { IfOk result (λ next. Waits next out.new) }
-    ensures err { OnErr result (Waits 0 out.new) }
-{
-    if slot == 65535 {
-        return put(rt, out, at, b'e');
-    }
-    put_number(rt, out, at, wide(slot))
+// The first slots of a string, as many as are used, parted by blanks; e is ε.
+#[derive(Clone, Copy, Debug, PartialEq, Eq)]
+pub struct Slots {
+    pub slots: [u16; 10],
+    pub used: usize,
 }
 
-// A blank before every slot but the first.
-fn put_parted(rt: &impl Print, out: &mut [u8], at: usize, i: usize) -> io::Result<usize>
-    requires { Waits at out.old }
-    ensures ok { IfOk result (λ next. Waits next out.new) }
-    ensures err { OnErr result (Waits 0 out.new) }
-{
-    if 0 < i {
-        return put(rt, out, at, b' ');
-    }
-    Ok(at)
-}
-
-// The slots that are used.
-pub fn put_slots(
-    rt: &impl Print,
-    out: &mut [u8],
-    at: usize,
-    slots: &[u16],
-    used: u64,
-) -> io::Result<usize>
-    requires { Waits at out.old }
-    ensures ok { IfOk result (λ next. Waits next out.new) }
-    ensures err { OnErr result (Waits 0 out.new) }
-{
-    let mut next = at;
-    for i in 0..slots.len() {
-        if used <= i as u64 {
-            return Ok(next);
+impl Slots {
+    // The slots of a string; of words that are none, no slots.
+    pub fn of(t: Terminals) -> Slots {
+        let Ok(u) = t.unpack() else {
+            return Slots {
+                slots: [0; 10],
+                used: 0,
+            };
+        };
+        let slots = u.slots;
+        Slots {
+            slots,
+            used: u.length as usize,
         }
-        next = put_parted(rt, out, next, i)?;
-        next = put_slot(rt, out, next, slots[i])?;
     }
-    Ok(next)
 }
 
-fn put_string(rt: &impl Print, out: &mut [u8], at: usize, t: Terminals) -> io::Result<usize>
-    requires { Waits at out.old }
-    ensures ok { IfOk result (λ next. Waits next out.new) }
-    ensures err { OnErr result (Waits 0 out.new) }
-{
-    let u = t.unpack();
-    let slots = u.slots;
-    let next = put_text(rt, out, at, b" [")?;
-    let next = put_slots(rt, out, next, &slots, u.length)?;
-    put(rt, out, next, b']')
+impl fmt::Display for Slots {
+    fn fmt<W: fmt::Write>(&self, f: &mut fmt::Formatter<W>) -> fmt::Result {
+        for (i, slot) in self.slots.iter().take(self.used).enumerate() {
+            if 0 < i {
+                f.write_str(" ")?;
+            }
+            if *slot == 65535 {
+                f.write_str("e")?;
+            } else {
+                write!(f, "{slot}")?;
+            }
+        }
+        Ok(())
+    }
 }
 
 // The members of a set; of no words, none.
-fn put_members(rt: &impl Print, out: &mut [u8], at: usize, set: &[u64]) -> io::Result<usize>
-    requires { Waits at out.old }
-    ensures ok { IfOk result (λ next. Waits next out.new) }
-    ensures err { OnErr result (Waits 0 out.new) }
-{
-    if set.len() == 0 {
-        return Ok(at);
+fn put_members(out: &mut impl Write, set: &[u64]) -> io::Result<()> {
+    if set.is_empty() {
+        return Ok(());
     }
-    let mut next = at;
-    let mut left = counted(set);
-    let mut i = 1;
-    let last = set.len() - 1;
-    while i < last {
-        if left == 0 {
-            return Ok(next);
-        }
-        let lo = set[i];
-        let hi = set[i + 1];
-        next = put_string(rt, out, next, Terminals { lo, hi })?;
-        left -= 1;
-        i += 2;
+    for pair in set[1..].chunks_exact(2).take(counted(set)) {
+        let t = Terminals {
+            lo: pair[0],
+            hi: pair[1],
+        };
+        write!(out, " [{}]", Slots::of(t))?;
     }
-    Ok(next)
+    Ok(())
 }
 
 // The rest of a set's line, behind its number: a colon, the members, the line's end.
 pub fn put_set(
-    rt: &impl Print,
-    out: &mut [u8],
-    at: usize,
+    out: &mut impl Write,
     res: &[u64],
     kind: usize,
     number: usize,
     s: Sizes,
-) -> io::Result<usize>
-    requires { Waits at out.old }
-    ensures ok { IfOk result (λ next. Waits next out.new) }
-    ensures err { OnErr result (Waits 0 out.new) }
-{
-    let next = put(rt, out, at, b':')?;
-    let set = set_of(res, kind, number, s.n, s.p, s.q, s.c);
-    let next = put_members(rt, out, next, set)?;
-    put(rt, out, next, b'\n')
+) -> io::Result<()> {
+    write!(out, ":")?;
+    put_members(out, set_of(res, kind, number, s.n, s.p, s.q, s.c))?;
+    writeln!(out)
 }

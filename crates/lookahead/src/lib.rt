@@ -1,6 +1,9 @@
 // The public surface: everything that a user may call, and nothing else. No function here asks anything of its caller: what cannot be answered is
-// refused by number, and its contract says what then stands in every lent word.
+// refused, and its contract says what then stands in every lent word.
 #![tactic(auto)]
+
+// ---- why a call refuses, in the order of the rules' numbers; u64::from is the number
+pub use refusals::Refusal;
 
 // ---- packed strings: `Terminals`, two words by value, with its methods
 //   Terminals::eps(m)              ε, for the greatest terminal m
@@ -12,12 +15,13 @@
 //   t.is_k_complete(k)             whether k terminals are there, or the end marker
 //   t.cmp(u)                       by length, then by value
 //   t.unpack()                     the length and ten slots, ε as 65,535
-pub use k_tuple::{CompleteAnswer, OrderAnswer, StringAnswer, Terminals, Unpacked, WidthAnswer};
+pub use k_tuple::{Terminals, Unpacked};
 // How many bits a slot takes, for the greatest terminal m.
 pub use k_tuple::width;
 
 // ---- sets in lent words: a count, the members in order, two words each, then zeros
-pub use k_tuples::{SetAnswer, TestAnswer, UnionAnswer};
+// Whether a union added to its first set.
+pub use k_tuples::set::Grown;
 // The members that two sets have in common.
 pub use k_tuples::intersection;
 // Whether two sets have no member in common.
@@ -30,10 +34,10 @@ pub use k_joins::k_concat;
 pub use k_tuples::union;
 
 // ---- a register's rules: a text in ABNF becomes a table, and the table's numbers lead back to the text
-// How many bytes the table takes, or a refusal and its place in the text.
-pub use abnf::grammar::TableAnswer;
-// The table of a text's rules, in lent bytes.
+// The table of a text's rules, in lent bytes: how many it takes, or a refusal and its place.
 pub use abnf::grammar::read_abnf;
+// A refusal and its place in the text.
+pub use abnf_tables::refused::Refused;
 // The bytes of a text from a start up to an end.
 pub use abnf_names::TextPart;
 // The part of a text that names a nonterminal: its name, or "[" of its group.
@@ -50,19 +54,17 @@ pub use engine::ask::set_of;
 pub use engine::lookahead_sets;
 
 // ---- which k a table needs
-// What the call answers: a refusal or 0, how many nonterminals, and for each its refusal and its k.
+// What the call answers: how many nonterminals, and for each its k or its refusal.
 pub use decision::Needed;
 // The smallest k up to a limit at which the productions of each nonterminal can be told apart, in the same two slices of words.
 pub use decision::needed_k;
 
 // ---- the automata by which a reader picks its production
-// What the call answers: a refusal or 0, and how many bytes are written.
-pub use automaton::answer::Automata;
-// The prefix tree of each nonterminal's joined strings at the k that it needs, in lent bytes.
+// The prefix tree of each nonterminal's joined strings at the k that it needs, in lent bytes: how many of them it takes, or a refusal.
 pub use automaton::automata;
 
 // ---- marking a prediction table written by hand
-// What the call answers: a refusal or 0, the first bad row, and the first missing string with its nonterminal.
-pub use marking::answer::Mark;
+// Why the rows are not accepted: a refusal of the call, the first bad row, or the first missing string with its nonterminal.
+pub use marking::MarkError;
 // Whether rows of four words, a nonterminal, a string's two words and a production, give each joined string its production and hold nothing else.
 pub use marking::mark;

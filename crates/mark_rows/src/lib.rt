@@ -2,266 +2,155 @@
 // nonterminal, the terminals of its string and the production, parted by colons, as `1: 5 6: 2`. Lines of blanks are passed over.
 #![tactic(auto)]
 
-ghost use Rattle.std.specs.Prelude.{◌≡◌};
+ghost use Rattle.std.specs.Prelude.{◌≡◌, length, IfSome, IfOk};
 ghost use Rattle.io.specs.Counts.{IsPrefixLen};
 
 use crate::tokens::{Token, digit, is_blank, token_at};
-use k_tuple::{StringAnswer, Terminals};
+use k_tuple::Terminals;
+use refusals::Refusal;
 use replay::find;
 
 mod tokens;
 
 // ---- the first line
 
-// The byte that a pair writes, 256 where it writes none.
-fn pair(high: u8, low: u8) -> u64 {
-    let h = digit(high);
-    if 15 < h {
-        return 256;
-    }
-    let l = digit(low);
-    if 15 < l {
-        return 256;
-    }
-    h * 16 + l
+// The byte that the pair at a place writes, if there is one.
+fn pair_at(line: &[u8], i: usize) -> Option<u8> {
+    let high = digit(*line.get(i)?)?;
+    let low = digit(*line.get(i + 1)?)?;
+    Some(high * 16 + low)
 }
 
-// The byte that the pair at a place writes, 256 where there is none.
-fn pair_at(line: &[u8], i: usize) -> u64 {
-    if i < line.len() {
-        let left = line.len() - i;
-        if 1 < left {
-            return pair(line[i], line[i + 1]);
-        }
-    }
-    256
-}
-
-// Puts a byte behind others; where it is none, or has no room, nothing.
-fn put_byte(into: &mut [u8], count: usize, b: u64) -> usize
-    requires { IsPrefixLen count into.old }
-    ensures { IsPrefixLen result into.new }
-{
-    if 255 < b {
-        return count;
-    }
-    if count < into.len() {
-        into[count] = b as u8;
-        return count + 1;
-    }
-    count
-}
-
-// What was read of pairs: whether all are, and how many bytes they are.
-#[derive(Clone, Copy)]
-pub struct Pairs {
-    pub ok: bool,
-    pub count: usize,
-}
-
-// Reads pairs, with blanks between them, into lent bytes.
-pub fn read_pairs(line: &[u8], into: &mut [u8]) -> Pairs
-    ensures { IsPrefixLen result.count into.new }
+// Reads pairs, with blanks between them, into lent bytes, and tells how many; nothing where there is anything else, or more than have room.
+pub fn read_pairs(line: &[u8], into: &mut [u8]) -> Option<usize>
+    ensures { IfSome result (λ n. IsPrefixLen n into.new) }
 {
     let mut count = 0;
     let mut i = 0;
     while i < line.len() {
         if is_blank(line[i]) {
             i += 1;
-        } else {
-            let b = pair_at(line, i);
-            let next = put_byte(into, count, b);
-            if next == count {
-                return Pairs { ok: false, count };
-            }
-            count = next;
-            i += 2;
+            continue;
         }
+        let b = pair_at(line, i)?;
+        if count == into.len() {
+            return None;
+        }
+        into[count] = b;
+        count += 1;
+        i += 2;
     }
-    Pairs { ok: true, count }
+    Some(count)
 }
 
 // ---- the other lines
 
-// What was read of a string: whether a colon ends it, its words, and the place behind it.
-#[derive(Clone, Copy)]
-struct Read {
-    ok: bool,
+// A prediction: a nonterminal, a string and a production.
+#[derive(Clone, Copy, Debug, PartialEq, Eq)]
+struct Row {
+    nonterminal: u64,
     string: Terminals,
-    next: usize,
+    production: u64,
 }
 
-// A string, or words that are none.
-fn told(answer: StringAnswer) -> Terminals {
-    match answer {
-        StringAnswer::Is(t) => t,
-        StringAnswer::Refused(_) => Terminals { lo: 0, hi: 0 },
-    }
-}
-
-// The string without terminals, where m is the greatest: the first 0 of a list.
-fn empty(m: u64) -> Terminals {
-    let list = [0u16; 1];
-    told(Terminals::make(&list, 0, m))
-}
-
-// Reads the terminals of a string up to a colon, where m is the greatest. Words that are no string come of terminals that make none.
-fn read_string(line: &[u8], at: usize, m: u64) -> Read {
-    let mut string = empty(m);
-    let mut i = at;
-    let mut count: u64 = 0;
-    while count < 64 {
-        match token_at(line, i) {
-            Token::Number { value, next } => {
-                string = told(string.push(value));
-                i = next;
-                count += 1;
-            }
-            Token::Colon { next } => {
-                return Read {
-                    ok: true,
-                    string,
-                    next,
-                };
-            }
-            Token::End => {
-                break;
-            }
-            Token::Other => {
-                break;
-            }
-        }
-    }
-    Read {
-        ok: false,
-        string,
-        next: i,
-    }
-}
-
-// A row, or a line without one, or one that is none.
-#[derive(Clone, Copy)]
-enum Row {
-    Words {
-        nonterminal: u64,
-        string: Terminals,
-        production: u64,
-    },
+// What stands in a line: a row, nothing, or something that is none.
+#[derive(Clone, Copy, Debug, PartialEq, Eq)]
+enum Line {
+    Row(Row),
     Blanks,
     Unreadable,
 }
 
-// The production is the last of its line.
-fn row_with(line: &[u8], nonterminal: u64, string: Terminals, production: u64, at: usize) -> Row {
-    match token_at(line, at) {
-        Token::End => Row::Words {
-            nonterminal,
-            string,
-            production,
-        },
-        _ => Row::Unreadable,
-    }
+// A string, or words that are none.
+fn told(answer: Result<Terminals, Refusal>) -> Terminals {
+    answer.unwrap_or(Terminals { lo: 0, hi: 0 })
 }
 
-// The string and the production, behind the first colon.
-fn row_behind(line: &[u8], at: usize, nonterminal: u64, m: u64) -> Row {
-    let read = read_string(line, at, m);
-    if read.ok {
-        return match token_at(line, read.next) {
-            Token::Number { value, next } => row_with(line, nonterminal, read.string, value, next),
-            _ => Row::Unreadable,
-        };
-    }
-    Row::Unreadable
+// The string without terminals, where m is the greatest: the first 0 of a list.
+fn empty(m: u64) -> Terminals {
+    told(Terminals::make(&[0u16; 1], 0, m))
 }
 
-// What stands behind the nonterminal of a row.
-fn row_of(line: &[u8], at: usize, nonterminal: u64, m: u64) -> Row {
-    match token_at(line, at) {
-        Token::Colon { next } => row_behind(line, next, nonterminal, m),
-        _ => Row::Unreadable,
-    }
-}
-
-fn read_row(line: &[u8], m: u64) -> Row {
-    match token_at(line, 0) {
-        Token::Number { value, next } => row_of(line, next, value, m),
-        Token::End => Row::Blanks,
-        _ => Row::Unreadable,
-    }
-}
-
-// Puts a word behind others, where it has room.
-fn put_word(rows: &mut [u64], count: usize, word: u64) -> usize
-    requires { IsPrefixLen count rows.old }
-    ensures { IsPrefixLen result rows.new }
-{
-    if count < rows.len() {
-        rows[count] = word;
-        return count + 1;
-    }
-    count
-}
-
-// Puts the four words of a row behind others; without room for all, nothing.
-fn put_words(
-    rows: &mut [u64],
-    count: usize,
-    nonterminal: u64,
-    string: Terminals,
-    production: u64,
-) -> usize
-    requires { IsPrefixLen count rows.old }
-    ensures { IsPrefixLen result rows.new }
-{
-    let left = rows.len() - count;
-    if left < 4 {
-        return count;
-    }
-    let next = put_word(rows, count, nonterminal);
-    let next = put_word(rows, next, string.lo);
-    let next = put_word(rows, next, string.hi);
-    put_word(rows, next, production)
-}
-
-// Whether a line was taken, and how many words there are then.
-#[derive(Clone, Copy)]
-struct Taken {
-    ok: bool,
-    count: usize,
-}
-
-fn take_row(rows: &mut [u64], count: usize, row: Row) -> Taken
-    requires { IsPrefixLen count rows.old }
-    ensures { IsPrefixLen result.count rows.new }
-{
-    match row {
-        Row::Words {
-            nonterminal,
-            string,
-            production,
-        } => {
-            let next = put_words(rows, count, nonterminal, string, production);
-            Taken {
-                ok: next != count,
-                count: next,
+// Reads the terminals of a string up to a colon, at most 63, where m is the greatest; tells the string and the place behind the colon. Words that are no
+// string come of terminals that make none.
+fn read_string(line: &[u8], at: usize, m: u64) -> Option<(Terminals, usize)> {
+    let mut string = empty(m);
+    let mut i = at;
+    for _ in 0..64 {
+        match token_at(line, i) {
+            Token::Number { value, next } => {
+                string = told(string.push(value));
+                i = next;
+            }
+            Token::Colon { next } => {
+                return Some((string, next));
+            }
+            _ => {
+                return None;
             }
         }
-        Row::Blanks => Taken { ok: true, count },
-        Row::Unreadable => Taken { ok: false, count },
+    }
+    None
+}
+
+// The number at a place, and the place behind it.
+fn read_number(line: &[u8], at: usize) -> Option<(u64, usize)> {
+    match token_at(line, at) {
+        Token::Number { value, next } => Some((value, next)),
+        _ => None,
     }
 }
 
-// What was read of rows: how many words they are, and the number of the first line that is no row or has no room, or 0.
-#[derive(Clone, Copy)]
-pub struct Rows {
-    pub count: usize,
-    pub bad: u64,
+// What stands behind the nonterminal of a row: a colon, a string with its colon, and a production, the last of its line.
+fn row_behind(line: &[u8], at: usize, nonterminal: u64, m: u64) -> Option<Row> {
+    let Token::Colon { next } = token_at(line, at) else {
+        return None;
+    };
+    let (string, next) = read_string(line, next, m)?;
+    let (production, next) = read_number(line, next)?;
+    if token_at(line, next) != Token::End {
+        return None;
+    }
+    Some(Row {
+        nonterminal,
+        string,
+        production,
+    })
 }
 
-// Reads rows from a place on, where the second line of a text begins, and m is the greatest terminal.
-pub fn read_rows(text: &[u8], from: usize, m: u64, rows: &mut [u64]) -> Rows
-    ensures { IsPrefixLen result.count rows.new }
+fn read_line(line: &[u8], m: u64) -> Line {
+    match token_at(line, 0) {
+        Token::Number { value, next } => match row_behind(line, next, value, m) {
+            Some(row) => Line::Row(row),
+            None => Line::Unreadable,
+        },
+        Token::End => Line::Blanks,
+        _ => Line::Unreadable,
+    }
+}
+
+// Puts the four words of a row behind others, and tells how many there are then, if all have room.
+fn put_row(rows: &mut [u64], count: usize, row: Row) -> Option<usize>
+    requires { IsPrefixLen count rows.old }
+    ensures { IfSome result (λ n. IsPrefixLen n rows.new) × (length rows.new ≡ length rows.old) }
+{
+    if rows.len() - count < 4 {
+        return None;
+    }
+    rows[count] = row.nonterminal;
+    rows[count + 1] = row.string.lo;
+    rows[count + 2] = row.string.hi;
+    rows[count + 3] = row.production;
+    Some(count + 4)
+}
+
+// The number of a line that is no row, or has no room.
+#[derive(Clone, Copy, Debug, PartialEq, Eq)]
+pub struct BadLine(pub u64);
+
+// Reads rows from a place on, where the second line of a text begins, and m is the greatest terminal; tells how many words they are.
+pub fn read_rows(text: &[u8], from: usize, m: u64, rows: &mut [u64]) -> Result<usize, BadLine>
+    ensures { IfOk result (λ n. IsPrefixLen n rows.new) }
 {
     let mut count = 0;
     let mut line: u64 = 1;
@@ -269,14 +158,15 @@ pub fn read_rows(text: &[u8], from: usize, m: u64, rows: &mut [u64]) -> Rows
     while at < text.len() {
         let end = find(text, at, b'\n');
         line += 1;
-        let row = read_row(&text[at..end], m);
-        let taken = take_row(rows, count, row);
-        count = taken.count;
-        if taken.ok {
-            at = end + 1;
-        } else {
-            return Rows { count, bad: line };
+        match read_line(&text[at..end], m) {
+            Line::Row(row) => match put_row(rows, count, row) {
+                Some(more) => count = more,
+                None => return Err(BadLine(line)),
+            },
+            Line::Blanks => {}
+            Line::Unreadable => return Err(BadLine(line)),
         }
+        at = end + 1;
     }
-    Rows { count, bad: 0 }
+    Ok(count)
 }

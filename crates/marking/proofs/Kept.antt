@@ -16,9 +16,8 @@ use Rattle.decision_theory.proofs.Listed.{automata-accepted}
 use Rattle.decision_theory.proofs.Kept.{mark-all, mark-one}
 use Rattle.decision.specs.Call.{words_after}
 use Rattle.decision.proofs.Further.{whole-between, one-between}
-use Rattle.marking.specs.declared.answer.Mark.{Mark}
 use Rattle.marking.specs.Rows.{rows_in}
-use Rattle.marking.specs.Call.{width_in, record_of, Promised}
+use Rattle.marking.specs.Call.{Record, width_in, record_of, Promised}
 use Rattle.marking.specs.Promises as P
 
 -- ---- one outcome
@@ -36,7 +35,7 @@ mark-answers limit c table rows result scratch r R S p = record {
 
 -- ---- the outcome by the answer
 
-module _ (limit c : ℕ) (table rows result scratch : List ℕ) (r : Mark) (R S : List ℕ) (p : Promised limit c table rows result scratch r R S) where
+module _ (limit c : ℕ) (table rows result scratch : List ℕ) (r : Record) (R S : List ℕ) (p : Promised limit c table rows result scratch r R S) where
   abbrev ρ : List Row
   ρ = rows_in (width_in table) rows
 
@@ -57,8 +56,8 @@ module _ (limit c : ℕ) (table rows result scratch : List ℕ) (r : Mark) (R S 
   k3 : (x : ℕ) → (¬ x ≡ 0) → (¬ x ≡ 24) → (¬ x ≡ 25) → r ≡ record_of (width_in table) (refused x) → Outcome
   unfolding record_of
   k3 x a b d e =
-      let z : r.refusal ≡ x = ap (λ (y : Mark). y.refusal) e in
-      of-k3 (λ q. a (sym z ∙ q)) (λ q. b (sym z ∙ q)) (λ q. d (sym z ∙ q)) (ap (λ (y : Mark). y.row) e) (ap (λ (y : Mark). y.nonterminal) e, ap (λ (y : Mark). y.lo) e, ap (λ (y : Mark). y.hi) e)
+      let z : r.refusal ≡ x = ap (λ (y : Record). y.refusal) e in
+      of-k3 (λ q. a (sym z ∙ q)) (λ q. b (sym z ∙ q)) (λ q. d (sym z ∙ q)) (ap (λ (y : Record). y.row) e) (ap (λ (y : Record). y.nonterminal) e, ap (λ (y : Record). y.lo) e, ap (λ (y : Record). y.hi) e)
 
   -- every outcome is one of these
   outcome : Outcome
@@ -71,46 +70,46 @@ module _ (limit c : ℕ) (table rows result scratch : List ℕ) (r : Mark) (R S 
       by m (marked-as {ds = ds} {g = g} {x = x} all reads q) e = of-mark ds all g reads x q e
 
 -- the numbers of a mark
-number_of : (w : ℕ) (r : Mark) (x : Marking) → r ≡ record_of w (got x) → r.refusal ≡ (record_of w (got x)).refusal
-number_of w r x e = ap (λ (y : Mark). y.refusal) e
+number_of : (w : ℕ) (r : Record) (x : Marking) → r ≡ record_of w (got x) → r.refusal ≡ (record_of w (got x)).refusal
+number_of w r x e = ap (λ (y : Record). y.refusal) e
 
 -- ---- refusals
 
 pub whole-passed : P.WholePassed
 unfolding record_of
-whole-passed limit c table rows result scratch r R S p x e = ap (λ (y : Mark). y.refusal) (given limit c table rows result scratch r R S p (mark-refused e))
+whole-passed limit c table rows result scratch r R S p x e = ap (λ (y : Record). y.refusal) (given limit c table rows result scratch r R S p (mark-refused e))
 
 pub lowest-passed : P.LowestPassed
 unfolding record_of
-lowest-passed limit c table rows result scratch r R S p x l = ap (λ (y : Mark). y.refusal) (given limit c table rows result scratch r R S p (one-refused l))
+lowest-passed limit c table rows result scratch r R S p x l = ap (λ (y : Record). y.refusal) (given limit c table rows result scratch r R S p (one-refused l))
 
 pub accepted-call-exactly : P.AcceptedExactly
 unfolding record_of
 accepted-call-exactly limit c table rows result scratch r R S p = (
   λ z. by z (outcome limit c table rows result scratch r R S p),
-  λ d. ap (λ (y : Mark). y.refusal) (decided-given limit c table rows result scratch r R S p d (all-given d.holds)),
+  λ d. ap (λ (y : Record). y.refusal) (decided-given limit c table rows result scratch r R S p d (all-given d.holds)),
 )
   where
     by : r.refusal ≡ 0 → Outcome limit c table rows result scratch r R S p → P.Decides limit c table rows result scratch (λ g ρ. AllGiven g ρ)
     by z (of-k3 a b d e f) = absurd (a z)
     by z (of-mark ds all g reads x (all-given a) e) = record { ds = ds; decided = all; g = g; reads = reads; holds = a }
-    by z (of-mark ds all g reads x (first-bad b) e) = absurd (let y = ap (λ (y : Mark). y.refusal) e in omega arith)
-    by z (of-mark ds all g reads x (first-missing n b) e) = absurd (let y = ap (λ (y : Mark). y.refusal) e in omega arith)
+    by z (of-mark ds all g reads x (first-bad b) e) = absurd (let y = ap (λ (y : Record). y.refusal) e in omega arith)
+    by z (of-mark ds all g reads x (first-missing n b) e) = absurd (let y = ap (λ (y : Record). y.refusal) e in omega arith)
 
 pub twenty-four-exactly : P.TwentyFourExactly
 unfolding record_of
 twenty-four-exactly limit c table rows result scratch r R S p i = (
   λ (z, q). by z q (outcome limit c table rows result scratch r R S p),
-  λ d. let e = decided-given limit c table rows result scratch r R S p d (first-bad d.holds) in (ap (λ (y : Mark). y.refusal) e, ap (λ (y : Mark). y.row) e),
+  λ d. let e = decided-given limit c table rows result scratch r R S p d (first-bad d.holds) in (ap (λ (y : Record). y.refusal) e, ap (λ (y : Record). y.row) e),
 )
   where
     by : r.refusal ≡ 24 → r.row ≡ i → Outcome limit c table rows result scratch r R S p → P.Decides limit c table rows result scratch (λ g ρ. FirstBad g ρ i)
     by z q (of-k3 a b d e f) = absurd (b z)
-    by z q (of-mark ds all g reads x (all-given a) e) = absurd (let y = ap (λ (y : Mark). y.refusal) e in omega arith)
+    by z q (of-mark ds all g reads x (all-given a) e) = absurd (let y = ap (λ (y : Record). y.refusal) e in omega arith)
     by z q (of-mark ds all g reads x (first-bad {i = j} b) e) =
-        let same : j ≡ i = sym (ap (λ (y : Mark). y.row) e) ∙ q in
+        let same : j ≡ i = sym (ap (λ (y : Record). y.row) e) ∙ q in
         record { ds = ds; decided = all; g = g; reads = reads; holds = subst (FirstBad g (rows_in (width_in table) rows)) same b }
-    by z q (of-mark ds all g reads x (first-missing n b) e) = absurd (let y = ap (λ (y : Mark). y.refusal) e in omega arith)
+    by z q (of-mark ds all g reads x (first-missing n b) e) = absurd (let y = ap (λ (y : Record). y.refusal) e in omega arith)
 
 pub twenty-five-told : P.TwentyFiveTold
 unfolding record_of
@@ -118,10 +117,10 @@ twenty-five-told limit c table rows result scratch r R S p z = by (outcome limit
   where
     by : Outcome limit c table rows result scratch r R S p → P.Decides limit c table rows result scratch (λ g ρ. P.MissingTold g (width_in table) ρ r)
     by (of-k3 a b d e f) = absurd (d z)
-    by (of-mark ds all g reads x (all-given a) e) = absurd (let y = ap (λ (y : Mark). y.refusal) e in omega arith)
-    by (of-mark ds all g reads x (first-bad b) e) = absurd (let y = ap (λ (y : Mark). y.refusal) e in omega arith)
+    by (of-mark ds all g reads x (all-given a) e) = absurd (let y = ap (λ (y : Record). y.refusal) e in omega arith)
+    by (of-mark ds all g reads x (first-bad b) e) = absurd (let y = ap (λ (y : Record). y.refusal) e in omega arith)
     by (of-mark ds all g reads x (first-missing {A = A} {z = s} n b) e) =
-        let same : A ≡ r.nonterminal = sym (ap (λ (y : Mark). y.nonterminal) e) in
+        let same : A ≡ r.nonterminal = sym (ap (λ (y : Record). y.nonterminal) e) in
         record {
           ds = ds;
           decided = all;
@@ -131,8 +130,8 @@ twenty-five-told limit c table rows result scratch r R S p z = by (outcome limit
             none-bad = n;
             z = s;
             first = subst (λ (B : ℕ). FirstMissing g (rows_in (width_in table) rows) B s) same b;
-            low = ap (λ (y : Mark). y.lo) e;
-            high = ap (λ (y : Mark). y.hi) e;
+            low = ap (λ (y : Record). y.lo) e;
+            high = ap (λ (y : Record). y.hi) e;
           };
         }
 
@@ -146,9 +145,9 @@ others-zero limit c table rows result scratch r R S p = by (outcome limit c tabl
   where
     by : Outcome limit c table rows result scratch r R S p → (¬ r.refusal ≡ 24 → r.row ≡ 0) × (¬ r.refusal ≡ 25 → (r.nonterminal ≡ 0) × (r.lo ≡ 0) × (r.hi ≡ 0))
     by (of-k3 a b d e f) = (λ _. e, λ _. f)
-    by (of-mark ds all g reads x (all-given a) e) = (λ _. ap (λ (y : Mark). y.row) e, λ _. (ap (λ (y : Mark). y.nonterminal) e, ap (λ (y : Mark). y.lo) e, ap (λ (y : Mark). y.hi) e))
-    by (of-mark ds all g reads x (first-bad b) e) = (λ n. absurd (n (ap (λ (y : Mark). y.refusal) e)), λ _. (ap (λ (y : Mark). y.nonterminal) e, ap (λ (y : Mark). y.lo) e, ap (λ (y : Mark). y.hi) e))
-    by (of-mark ds all g reads x (first-missing n b) e) = (λ _. ap (λ (y : Mark). y.row) e, λ q. absurd (q (ap (λ (y : Mark). y.refusal) e)))
+    by (of-mark ds all g reads x (all-given a) e) = (λ _. ap (λ (y : Record). y.row) e, λ _. (ap (λ (y : Record). y.nonterminal) e, ap (λ (y : Record). y.lo) e, ap (λ (y : Record). y.hi) e))
+    by (of-mark ds all g reads x (first-bad b) e) = (λ n. absurd (n (ap (λ (y : Record). y.refusal) e)), λ _. (ap (λ (y : Record). y.nonterminal) e, ap (λ (y : Record). y.lo) e, ap (λ (y : Record). y.hi) e))
+    by (of-mark ds all g reads x (first-missing n b) e) = (λ _. ap (λ (y : Record). y.row) e, λ q. absurd (q (ap (λ (y : Record). y.refusal) e)))
 
 -- ---- the buffers
 

@@ -9,3 +9,4 @@ pub mod Ending
 pub mod Writing
 pub mod Kept
 pub mod Written
+pub mod Known

@@ -8,12 +8,14 @@ use mathlib.Core.Logic.{inl, inr, ⊎_elim, ◌↔◌}
 use mathlib.Core.List.{List}
 use borrow.Author.Tests.{lt-ltb, le-ltb}
 use lib.ListN.{length, get_or, replicate, length-replicate}
+use Rattle.std.specs.Prelude.{Option, Some, None}
 use Rattle.k_tuples.specs.Sets.{◌∈◌}
 use Rattle.k_tuples.specs.Blocks.{part_at}
 use Rattle.k_tuples.proofs.Blocks.{part_length, in-sets}
 use Rattle.k_tuples.proofs.Held.{holds-set}
 use Rattle.k_tuples.proofs.Words.{set_room}
 use Rattle.blocks.specs.Stores.{Sets}
+use Rattle.decision.specs.declared.Links.{Links}
 use Rattle.decision.specs.declared.Layout.{Layout}
 use Rattle.decision.specs.Own.{left_at}
 use Rattle.decision.proofs.Apart.{set_holds}
@@ -54,36 +56,32 @@ module _ {b m : ℕ} {ws : List ℕ} (s : Sets b m ws) (j : ℕ) (h : j < m) whe
       let z = block-long in
       omega arith
 
-  -- a place is told by the size of a block
-  pub placed-block : {v r : ℕ} → Placed (numbers_in (part_at b j ws)) v (length (part_at b j ws)) r → Placed (numbers_in (part_at b j ws)) v b r
-  placed-block (Placed.found l e) = Placed.found l e
-  placed-block (Placed.absent n e) = Placed.absent n (e ∙ block-long)
-
 -- ---- one mark
 
-module _ {vs : List ℕ} {v b j : ℕ} (p : Placed vs v b j) (room : 2 * length vs + 1 ≤ b) where
-  pub mark-absent : {i : ℕ} {marks marks' : List ℕ} → b ≤ j → MarkTaken vs i v marks marks' false
-  mark-absent {i} {marks} {marks'} h = by p
+module _ {vs : List ℕ} {v : ℕ} {o : Option ℕ} (p : Placed vs v o) where
+  pub mark-absent : {i : ℕ} {marks marks' : List ℕ} → o ≡ None → MarkTaken vs i v marks marks' false
+  mark-absent {i} {marks} {marks'} e = by p
     where
-      by : Placed vs v b j → MarkTaken vs i v marks marks' false
-      by (Placed.found l e) = absurd (omega arith)
-      by (Placed.absent n e) = MarkTaken.absent n refl
+      by : Placed vs v o → MarkTaken vs i v marks marks' false
+      by (Placed.found j q l is) = absurd (cc)
+      by (Placed.absent n q) = MarkTaken.absent n refl
 
-  place_found : j < b → (j < length vs) × (get_or vs j 0 ≡ v)
-  place_found h = by p
-    where
-      by : Placed vs v b j → (j < length vs) × (get_or vs j 0 ≡ v)
-      by (Placed.found l e) = (l, e)
-      by (Placed.absent n e) = absurd (omega arith)
+  module _ {j : ℕ} (e : o ≡ Some j) where
+    place_found : (j < length vs) × (get_or vs j 0 ≡ v)
+    place_found = by p
+      where
+        by : Placed vs v o → (j < length vs) × (get_or vs j 0 ≡ v)
+        by (Placed.found m q l is) = let z : m ≡ j = cc in rw (← z) (l, is)
+        by (Placed.absent n q) = absurd (cc)
 
-  pub mark-small : {i : ℕ} → b ≤ 2049 → i < 512 → j < b → 1024 * i + j < 524288
-  mark-small few h l = let q = (place_found l).0 in omega arith
+    pub mark-small : {b i : ℕ} → 2 * length vs + 1 ≤ b → b ≤ 2049 → i < 512 → 1024 * i + j < 524288
+    mark-small room few h = let q = place_found.0 in omega arith
 
-  pub mark-again : {i : ℕ} {r : Bool} {marks marks' : List ℕ} → j < b → r ≡ is_marked marks (1024 * i + j) → r ≡ true → MarkTaken vs i v marks marks' false
-  mark-again h e t = let q = place_found h in MarkTaken.again j q.0 q.1 (sym e ∙ t) refl
+    pub mark-again : {i : ℕ} {r : Bool} {marks marks' : List ℕ} → r ≡ is_marked marks (1024 * i + j) → r ≡ true → MarkTaken vs i v marks marks' false
+    mark-again q t = let f = place_found in MarkTaken.again j f.0 f.1 (sym q ∙ t) refl
 
-  pub mark-taken : {i : ℕ} {r : Bool} {marks marks' : List ℕ} → j < b → r ≡ is_marked marks (1024 * i + j) → r ≡ false → MarkedAt marks (1024 * i + j) marks' → MarkTaken vs i v marks marks' true
-  mark-taken h e t m = let q = place_found h in MarkTaken.taken j q.0 q.1 (sym e ∙ t) m refl
+    pub mark-taken : {i : ℕ} {r : Bool} {marks marks' : List ℕ} → r ≡ is_marked marks (1024 * i + j) → r ≡ false → MarkedAt marks (1024 * i + j) marks' → MarkTaken vs i v marks marks' true
+    mark-taken q t m = let f = place_found in MarkTaken.taken j f.0 f.1 (sym q ∙ t) m refl
 
 -- ---- one row
 
@@ -92,27 +90,27 @@ abbrev line_of : ℕ → ℕ → ℕ → Line
 line_of A v i = record { nonterminal = A; number = v; production = i }
 
 module _ {k lv : ℕ} (u : Layout) (κ : List ℕ) (A : ℕ) (level : lv ≡ level_of u.n κ A) where
-  pub line-over : {links result marks : List ℕ} {v i : ℕ} → ¬ lv ≡ k → LineTaken u links κ result k (line_of A v i) marks marks true
+  pub line-over : {links : Links} {result marks : List ℕ} {v i : ℕ} → ¬ lv ≡ k → LineTaken u links κ result k (line_of A v i) marks marks true
   line-over n = LineTaken.passed_over (λ e. n (level ∙ e)) refl refl
 
-  pub line-past : {links result marks marks' : List ℕ} {v i own : ℕ} → lv ≡ k → own ≡ i → u.p ≤ own → LineTaken u links κ result k (line_of A v i) marks marks' false
+  pub line-past : {links : Links} {result marks marks' : List ℕ} {v i own : ℕ} → lv ≡ k → own ≡ i → u.p ≤ own → LineTaken u links κ result k (line_of A v i) marks marks' false
   line-past e o h = LineTaken.foreign (sym level ∙ e) (λ q. let l = q.0 in omega arith) refl
 
-  pub line-foreign : {links result marks marks' : List ℕ} {v i own a : ℕ} → lv ≡ k → own ≡ i → a ≡ A → ¬ left_at links own ≡ a → LineTaken u links κ result k (line_of A v i) marks marks' false
+  pub line-foreign : {links : Links} {result marks marks' : List ℕ} {v i own a : ℕ} → lv ≡ k → own ≡ i → a ≡ A → ¬ left_at links own ≡ a → LineTaken u links κ result k (line_of A v i) marks marks' false
   line-foreign {links} e o f n = LineTaken.foreign (sym level ∙ e) (λ q. n (ap (left_at links) o ∙ q.1 ∙ sym f)) refl
 
-  pub line-tried : {links result marks marks' : List ℕ} {v i own a : ℕ} {r : Bool} → lv ≡ k → own ≡ i → own < u.p → a ≡ A → left_at links own ≡ a
+  pub line-tried : {links : Links} {result marks marks' : List ℕ} {v i own a : ℕ} {r : Bool} → lv ≡ k → own ≡ i → own < u.p → a ≡ A → left_at links own ≡ a
       → MarkTaken (numbers_at u result own) own v marks marks' r → LineTaken u links κ result k (line_of A v i) marks marks' r
   line-tried {links} {result} {marks} {marks'} {v} {r = r} e o h f q m =
       LineTaken.tried (sym level ∙ e) (omega arith) (ap (left_at links) (sym o) ∙ q ∙ f) (subst (λ (x : ℕ). MarkTaken (numbers_at u result x) x v marks marks' r) o m)
 
 -- what holds before row t: the rows of the level are fine, and those marked are they
-pub record Taking (u : Layout) (links κ result : List ℕ) (k : ℕ) (ws : List ℕ) (marks : List ℕ) (t : ℕ) : Type 0 where
+pub record Taking (u : Layout) (links : Links) (κ result : List ℕ) (k : ℕ) (ws : List ℕ) (marks : List ℕ) (t : ℕ) : Type 0 where
   pub fine : (h : ℕ) → h < t → level_of u.n κ (line_at ws h).nonterminal ≡ k → ¬ BadLine u links result ws h
   pub marked : MarksOf u links κ result k ws t marks
   pub long : length marks ≡ 8192
 
-module _ {u : Layout} {links κ result : List ℕ} (s : Stand u links κ result) where
+module _ {u : Layout} {links : Links} {κ result : List ℕ} (s : Stand u links κ result) where
   -- production i's block
   pub own_block : (i : ℕ) → i < u.p → u.n + i < u.sets
   own_block i h = let w = s.fit.whole in omega arith

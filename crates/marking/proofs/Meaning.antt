@@ -9,11 +9,11 @@ use mathlib.Core.List.{List, [], ◌∷◌, map}
 use borrow.Author.Tests.{eqb-true, eq-eqb, le-leb, lt-leb, ltb-true}
 use lib.Dec.{eqb}
 use lib.ListN.{length, get_or}
+use Rattle.std.specs.Prelude.{Option}
 use Rattle.cfg.specs.Grammar.{Grammar}
 use Rattle.k_tuple.specs.Strings.{Str, eps, slots, length_of, Decoded, good, bad, well_formed, pack, decode}
 use Rattle.k_tuple.specs.Order.{◌≺◌}
 use Rattle.k_tuple.specs.Packed.{packed, number_of, less_of}
-use Rattle.k_tuple.specs.Wide.{value}
 use Rattle.k_tuple.proofs.Words.{number-words}
 use Rattle.k_tuple.proofs.Round.{decode-good, decode-pack}
 use Rattle.k_tuples.specs.Sets.{◌∈◌, is_lt}
@@ -22,6 +22,7 @@ use Rattle.k_tuples.specs.Blocks.{part_at}
 use Rattle.k_tuples.proofs.Blocks.{in-sets, part-holds}
 use Rattle.k_tuples.proofs.Bridge.{less-packed}
 use Rattle.k_tuples.proofs.Held.{holds-decode}
+use Rattle.decision.specs.declared.Links.{Links}
 use Rattle.decision.specs.declared.Layout.{Layout}
 use Rattle.decision.specs.Own.{left_at}
 use Rattle.decision.specs.Steps.{held, production_set}
@@ -30,10 +31,10 @@ use Rattle.decision_theory.proofs.Call.{each-length, each_at}
 use Rattle.decision_theory.proofs.Lists.{at_place, place_of}
 use Rattle.decision_theory.proofs.Marking.{row_same}
 use Rattle.marking.specs.Bits.{is_marked}
-use Rattle.marking.specs.Lines.{numbers_in, numbers_at, level_of, Line, line_at, line_for, mark_of, Right, Among, BadLine, MarksOf, Checked, Free, Lacked}
+use Rattle.marking.specs.Lines.{end_of, numbers_in, numbers_at, level_of, Line, line_at, line_for, mark_of, Right, Among, BadLine, MarksOf, Checked, Free, Lacked}
 use Rattle.marking.specs.declared.lack.Missed.{Missed}
 use Rattle.marking.specs.Rows.{string_in, row_in, rows_in}
-use Rattle.marking.specs.Levels.{row_of, missed_in, Stands, LevelChecked, LevelMissed, AtLevel}
+use Rattle.marking.specs.Levels.{row_of, Stands, LevelChecked, LevelMissed, AtLevel}
 use Rattle.marking.specs.declared.Found.{Found}
 use Rattle.marking.proofs.Looking.{own_block, level-is}
 
@@ -91,7 +92,7 @@ module _ (w : ℕ) (ws : List ℕ) where
 
 -- ---- one level
 
-module _ {g : Grammar} {w k : ℕ} {u : Layout} {links κ result : List ℕ} (s : Stands g w k u links κ result) where
+module _ {g : Grammar} {w k : ℕ} {u : Layout} {links : Links} {κ result : List ℕ} (s : Stands g w k u links κ result) where
   abbrev strs : ℕ → List Str
   strs i = production_set u (held u result) i
 
@@ -260,36 +261,35 @@ module _ {g : Grammar} {w k : ℕ} {u : Layout} {links κ result : List ℕ} (s 
       told-else r e q n = ⊎_elim (λ m. m) (λ f. absurd (n (pack w r.string) refl (sym (level-is u.n r.nonterminal κ (subst (λ (x : ℕ). x < u.n) f.own (s.stand.fit.inside f.i f.inside))) ∙ e) f)) (given-or r e q)
 
       -- the first string of the level without a row
-      pub level-missed : {m r : Missed} → Lacked u links κ result marks k m r → LevelMissed g w rows u.n κ k m r
+      pub level-missed : {m r : Option Missed} → Lacked u links κ result marks k m r → LevelMissed g w rows u.n κ k m r
       unfolding less_of
       level-missed {m} {r} (Lacked.none n e) = record {
-        whole = λ x q l h. told-else x l q (λ v z y. n x.nonterminal (subst (λ (y : Missed). x.nonterminal < y.nonterminal) e h) y v);
-        told = inl e;
+        whole = λ x q l h. told-else x l q (λ v z y. n x.nonterminal (subst (λ (y : Option Missed). x.nonterminal < end_of u.n y) e h) y v);
+        under = let z : end_of u.n r ≡ end_of u.n m = ap (end_of u.n) e in omega arith;
+        told = λ x q. inl (sym e ∙ q);
       }
-      level-missed {m} {r} (Lacked.some h e free least before fits) = record {
-        whole = λ x q l b. told-else x l q (λ v z y. before x.nonterminal b y v);
-        told = inr (
-          h,
-          record {
-            z = a.z;
-            i = a.i;
-            told = a.number;
-            fits = fits;
-            wanted = a.wanted;
-            absent = a.absent;
-            earlier = λ x q same under.
-                told-else x (ap (level_of u.n κ) same ∙ level-is u.n r.nonterminal κ a.inside ∙ e) q
-                (λ v z y f.
-                let b = least v (subst (λ (A : ℕ). Free u links result marks A u.p v) same f) in
-                let l = below x q (ap (level_of u.n κ) same ∙ level-is u.n r.nonterminal κ a.inside ∙ e) under in
-                let number = a.number in
-                omega arith);
-          },
-        );
+      level-missed {m} {r} (Lacked.some s r-is h e free least before fits) = record {
+        whole = λ x q l b. told-else x l q (λ v z y. before x.nonterminal (rw r-is at b) y v);
+        under = rw r-is (omega arith);
+        told = λ x q. let same : x ≡ s = cc in rw same (inr (record {
+          z = a.z;
+          i = a.i;
+          told = a.number;
+          fits = fits;
+          wanted = a.wanted;
+          absent = a.absent;
+          earlier = λ x q same under.
+              told-else x (ap (level_of u.n κ) same ∙ level-is u.n s.nonterminal κ a.inside ∙ e) q
+              (λ v z y f.
+              let b = least v (subst (λ (A : ℕ). Free u links result marks A u.p v) same f) in
+              let l = below x q (ap (level_of u.n κ) same ∙ level-is u.n s.nonterminal κ a.inside ∙ e) under in
+              let number = a.number in
+              omega arith);
+        }));
       }
         where
-          a : Absent r.nonterminal (value r.lo r.hi)
-          a = free-absent r.nonterminal (value r.lo r.hi) e free
+          a : Absent s.nonterminal (number_of s.string)
+          a = free-absent s.nonterminal (number_of s.string) e free
 
           below : (x : Row) → Wanted g x → level_of u.n κ x.nonterminal ≡ k → x.string ≺ a.z → pack w x.string < pack w a.z
           below x q l under =
@@ -302,15 +302,15 @@ module _ {g : Grammar} {w k : ℕ} {u : Layout} {links κ result : List ℕ} (s 
 
 -- ---- one level
 
-module _ {k : ℕ} {u : Layout} {links κ result ws marks : List ℕ} {f : Found} {bad : ℕ} {m : Missed} (small : 4 * f.bad ≤ length ws) (few : f.nonterminal ≤ u.n) where
+module _ {k : ℕ} {u : Layout} {links : Links} {κ result ws marks : List ℕ} {f : Found} {bad : ℕ} {m : Option Missed} (small : 4 * f.bad ≤ length ws) (few : end_of u.n f.missed ≤ u.n) where
   -- the rows and then the strings of a level
-  pub level-done : Checked u links κ result k ws f.bad marks bad → Lacked u links κ result marks k (missed_in f) m → AtLevel k u links κ result ws f (record { bad = bad; nonterminal = m.nonterminal; lo = m.lo; hi = m.hi })
+  pub level-done : Checked u links κ result k ws f.bad marks bad → Lacked u links κ result marks k f.missed m → AtLevel k u links κ result ws f (record { bad = bad; missed = m })
   level-done c l g w s = record {
     checked = level-checked s ws small c;
     missed = λ whole. let b = c.below in let e : bad ≡ f.bad = omega arith in level-missed s ws marks whole (subst (λ (x : ℕ). MarksOf u links κ result k ws x marks) (sym e) (c.marks e)) l;
     few = below l;
   }
     where
-      below : Lacked u links κ result marks k (missed_in f) m → m.nonterminal ≤ u.n
+      below : Lacked u links κ result marks k f.missed m → end_of u.n m ≤ u.n
       below (Lacked.none n e) = rw e few
-      below (Lacked.some h e free least before fits) = omega arith
+      below (Lacked.some s r-is h e free least before fits) = rw r-is (omega arith)

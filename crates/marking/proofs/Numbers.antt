@@ -12,6 +12,7 @@ use mathlib.Core.List.Memᴰ.{tail as there}
 use mathlib.Core.List.{List, [], ◌∷◌, map}
 use borrow.Author.Tests.{ltb-true, lt-ltb, le-ltb, eqb-true, eqb-false}
 use lib.ListN.{length, get_or, length-map}
+use Rattle.std.specs.Prelude.{Some, None}
 use Rattle.k_tuple.specs.declared.Terminals.{Terminals}
 use Rattle.k_tuple.specs.Strings.{Str, pack}
 use Rattle.k_tuple.specs.Packed.{number_of, less_of}
@@ -107,15 +108,15 @@ module _ {ws : List ℕ} (x : Terminals) {p n : ℕ} (s : IsSet ws) (place : p �
       let r = rank-of x (decode ws) (members-rise (decode ws) s.rises) m in
       (let h = r.0 in omega arith, ap (λ (i : ℕ). get_or (map number_of (decode ws)) i 0) place ∙ r.1)
 
-  pub past_all : n ≤ p → Placed (numbers_in ws) (number_of x) (length ws) (length ws)
+  pub past_all : n ≤ p → Placed (numbers_in ws) (number_of x) None
   past_all h = Placed.absent (λ m. let l = (there-then m).0 in omega arith) refl
 
   module _ {m : Terminals} {b : Bool} (inside : p < n) (at : m ≡ member_at ws (2 * p + 1)) (asked : b ≡ same_member x m) where
     at-is : get_or (numbers_in ws) p 0 ≡ number_of m
     at-is = number_at ws p (omega arith) ∙ ap number_of (sym at)
 
-    pub is-there : b ≡ true → Placed (numbers_in ws) (number_of x) (length ws) p
-    is-there t = Placed.found (let l = numbers-length ws in omega arith) (at-is ∙ sym (eqb-true (number_of x) (number_of m) (sym asked ∙ t)))
+    pub is-there : b ≡ true → Placed (numbers_in ws) (number_of x) (Some p)
+    is-there t = Placed.found p refl (let l = numbers-length ws in omega arith) (at-is ∙ sym (eqb-true (number_of x) (number_of m) (sym asked ∙ t)))
 
-    pub is-not : b ≡ false → Placed (numbers_in ws) (number_of x) (length ws) (length ws)
+    pub is-not : b ≡ false → Placed (numbers_in ws) (number_of x) None
     is-not t = Placed.absent (λ q. eqb-false (number_of x) (number_of m) (sym asked ∙ t) (sym (there-then q).1 ∙ at-is)) refl

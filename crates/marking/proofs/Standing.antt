@@ -15,6 +15,7 @@ use Rattle.k_tuples.specs.Blocks.{IsStored, sets_in}
 use Rattle.k_tuples.proofs.Blocks.{zeros-stored, stored-sets, is-stored}
 use Rattle.analysis.specs.Promises.{IsSetOf}
 use Rattle.engine.specs.Call.{wiped}
+use Rattle.decision.specs.declared.Links.{Links}
 use Rattle.decision.specs.declared.Layout.{Layout}
 use Rattle.decision.specs.Own.{left_at}
 use Rattle.decision.specs.Steps.{held, production_set, grammar_of, Given}
@@ -49,7 +50,7 @@ right-for g A k xs h d e (right-several {k = j} {xs = ys} n l each s needs) =
       sets = λ i m. let (x, p, q) = choice-of g j each i m in (x, subst (λ (l : List Choice). x ∈ l) y p, subst (λ (t : ℕ). ChoiceIs g t i x) z q);
     }
 
-module _ {limit c : ℕ} {table : List ℕ} {u : Layout} {links κ : List ℕ} {R S : ℕ} (given : Given limit c table u links R S) (known : Known limit c (grammar_of table) κ) where
+module _ {limit c : ℕ} {table : List ℕ} {u : Layout} {links : Links} {κ : List ℕ} {R S : ℕ} (given : Given limit c table u links R S) (known : Known limit c (grammar_of table) κ) where
   abbrev g : Grammar
   g = grammar_of table
 

@@ -1,17 +1,18 @@
 -- What the functions below the call ask and promise of a table's rows at one level: the rows in words, the productions' strings as numbers, the marks.
 -- Not for the reader of the call. Assumes nothing.
-use Rattle.std.specs.Prelude.{ℕ, ◌+◌, ◌*◌, ◌^◌, ◌≤◌, ◌<◌, ◌≡◌, Bool, true, false, cond, ◌⊎◌, ◌↔◌, List, map, ltb, length, get_or}
+use Rattle.std.specs.Prelude.{ℕ, ◌+◌, ◌*◌, ◌^◌, ◌≤◌, ◌<◌, ◌≡◌, Bool, true, false, cond, ◌⊎◌, ◌↔◌, List, map, ltb, length, get_or, Option, Some, None}
 use Rattle.k_tuple.specs.Wide.{value}
 use Rattle.k_tuple.specs.Packed.{number_of}
 use Rattle.k_tuples.specs.Sets.{◌∈◌}
 use Rattle.k_tuples.specs.Words.{decode}
 use Rattle.k_tuples.specs.Blocks.{part_at}
 use Rattle.blocks.specs.Stores.{Sets}
+use Rattle.decision.specs.declared.Links.{Links}
 use Rattle.decision.specs.declared.Layout.{Layout}
 use Rattle.decision.specs.Own.{left_at}
 use Rattle.decision.specs.Steps.{Long, Fit}
 use Rattle.marking.specs.Bits.{is_marked, MarkedAt}
-use Rattle.marking.specs.declared.lack.Lack.{Lack}
+use Rattle.k_tuple.specs.declared.Terminals.{Terminals}
 use Rattle.marking.specs.declared.lack.Missed.{Missed}
 
 -- ---- a set's strings as numbers
@@ -24,13 +25,13 @@ numbers_in ws = map number_of (decode ws)
 abbrev pub numbers_at : Layout → List ℕ → ℕ → List ℕ
 numbers_at u result i = numbers_in (part_at u.b (u.n + i) result)
 
--- a number's place in a list, or what stands for none
-pub data Placed (a : List ℕ) (v none r : ℕ) : Type 0 where
-  found : r < length a → get_or a r 0 ≡ v → Placed a v none r
-  absent : ¬ (v ∈ a) → r ≡ none → Placed a v none r
+-- a number's place in a list
+pub data Placed (a : List ℕ) (v : ℕ) (r : Option ℕ) : Type 0 where
+  found : (j : ℕ) → r ≡ Some j → j < length a → get_or a j 0 ≡ v → Placed a v r
+  absent : ¬ (v ∈ a) → r ≡ None → Placed a v r
 
 -- the sets stand in the result, at most 1,024 members each, and the productions are linked
-pub record Stand (u : Layout) (links κ result : List ℕ) : Type 0 where
+pub record Stand (u : Layout) (links : Links) (κ result : List ℕ) : Type 0 where
   pub sets : Sets u.b u.sets result
   pub fit : Fit u links
   pub long : Long κ
@@ -62,7 +63,7 @@ pub data MarkTaken (vs : List ℕ) (i v : ℕ) (marks marks' : List ℕ) (r : Bo
   taken : (j : ℕ) → j < length vs → get_or vs j 0 ≡ v → is_marked marks (mark_of i j) ≡ false → MarkedAt marks (mark_of i j) marks' → r ≡ true → MarkTaken vs i v marks marks' r
 
 -- a row was taken at level k: passed over where it is of another
-pub data LineTaken (u : Layout) (links κ result : List ℕ) (k : ℕ) (l : Line) (marks marks' : List ℕ) (r : Bool) : Type 0 where
+pub data LineTaken (u : Layout) (links : Links) (κ result : List ℕ) (k : ℕ) (l : Line) (marks marks' : List ℕ) (r : Bool) : Type 0 where
   passed_over : ¬ level_of u.n κ l.nonterminal ≡ k → marks' ≡ marks → r ≡ true → LineTaken u links κ result k l marks marks' r
   foreign :
       level_of u.n κ l.nonterminal ≡ k → ¬ ((l.production < u.p) × (left_at links l.production ≡ l.nonterminal)) → r ≡ false
@@ -74,7 +75,7 @@ pub data LineTaken (u : Layout) (links κ result : List ℕ) (k : ℕ) (l : Line
 -- ---- all rows
 
 -- the row gives a string of its nonterminal's its production
-pub record Right (u : Layout) (links result : List ℕ) (l : Line) : Type 0 where
+pub record Right (u : Layout) (links : Links) (result : List ℕ) (l : Line) : Type 0 where
   pub inside : l.production < u.p
   pub own : left_at links l.production ≡ l.nonterminal
   pub has : l.number ∈ numbers_at u result l.production
@@ -86,20 +87,20 @@ pub record Among (ws : List ℕ) (t : ℕ) (l : Line) : Type 0 where
   pub is : line_at ws s ≡ l
 
 -- row t is not right, or stands before
-abbrev pub BadLine : (u : Layout) (links result ws : List ℕ) (t : ℕ) → Type 0
+abbrev pub BadLine : (u : Layout) (links : Links) (result ws : List ℕ) (t : ℕ) → Type 0
 BadLine u links result ws t = (¬ Right u links result (line_at ws t)) ⊎ Among ws t (line_at ws t)
 
 -- the row for member j of production i
-abbrev pub line_for : (u : Layout) (links result : List ℕ) (i j : ℕ) → Line
+abbrev pub line_for : (u : Layout) (links : Links) (result : List ℕ) (i j : ℕ) → Line
 line_for u links result i j = record { nonterminal = left_at links i; number = get_or (numbers_at u result i) j 0; production = i }
 
 -- the marks of level k are those of the first t rows
-abbrev pub MarksOf : (u : Layout) (links κ result : List ℕ) (k : ℕ) (ws : List ℕ) (t : ℕ) (marks : List ℕ) → Type 0
+abbrev pub MarksOf : (u : Layout) (links : Links) (κ result : List ℕ) (k : ℕ) (ws : List ℕ) (t : ℕ) (marks : List ℕ) → Type 0
 MarksOf u links κ result k ws t marks = (i j : ℕ) → i < u.p → get_or κ (left_at links i) 0 ≡ k → j < length (numbers_at u result i)
     → (is_marked marks (mark_of i j) ≡ true) ↔ Among ws t (line_for u links result i j)
 
 -- r is the first bad row of level k among the first `end`, or `end`
-pub record Checked (u : Layout) (links κ result : List ℕ) (k : ℕ) (ws : List ℕ) (end : ℕ) (marks' : List ℕ) (r : ℕ) : Type 0 where
+pub record Checked (u : Layout) (links : Links) (κ result : List ℕ) (k : ℕ) (ws : List ℕ) (end : ℕ) (marks' : List ℕ) (r : ℕ) : Type 0 where
   pub below : r ≤ end
   pub fine : (t : ℕ) → t < r → level_of u.n κ (line_at ws t).nonterminal ≡ k → ¬ BadLine u links result ws t
   pub bad : r < end → (level_of u.n κ (line_at ws r).nonterminal ≡ k) × BadLine u links result ws r
@@ -114,22 +115,21 @@ pub record FreeIn (vs : List ℕ) (marks : List ℕ) (i v : ℕ) : Type 0 where
   pub is : get_or vs j 0 ≡ v
   pub free : is_marked marks (mark_of i j) ≡ false
 
--- j is the first of n marks of production i that is not set, or n
-pub record FirstFree (marks : List ℕ) (i n j : ℕ) : Type 0 where
-  pub below : j ≤ n
-  pub marked : (h : ℕ) → h < j → is_marked marks (mark_of i h) ≡ true
-  pub free : j < n → is_marked marks (mark_of i j) ≡ false
+-- the first of n marks of production i that is not set
+pub data FirstFree (marks : List ℕ) (i n : ℕ) (r : Option ℕ) : Type 0 where
+  none : r ≡ None → ((h : ℕ) → h < n → is_marked marks (mark_of i h) ≡ true) → FirstFree marks i n r
+  some : (j : ℕ) → r ≡ Some j → j < n → ((h : ℕ) → h < j → is_marked marks (mark_of i h) ≡ true) → is_marked marks (mark_of i j) ≡ false → FirstFree marks i n r
 
 -- the least string of vs that is not marked was taken where it is below the best so far
-pub data Improved (vs marks : List ℕ) (i : ℕ) (best r : Lack) : Type 0 where
+pub data Improved (vs marks : List ℕ) (i : ℕ) (best r : Option Terminals) : Type 0 where
   none : ((v : ℕ) → ¬ FreeIn vs marks i v) → r ≡ best → Improved vs marks i best r
-  worse : ((v : ℕ) → FreeIn vs marks i v → value best.lo best.hi ≤ v) → best.found ≡ true → r ≡ best → Improved vs marks i best r
+  worse : (y : Terminals) → best ≡ Some y → ((v : ℕ) → FreeIn vs marks i v → number_of y ≤ v) → r ≡ best → Improved vs marks i best r
   better :
-      FreeIn vs marks i (value r.lo r.hi) → ((v : ℕ) → FreeIn vs marks i v → value r.lo r.hi ≤ v)
-      → (best.found ≡ true → value r.lo r.hi ≤ value best.lo best.hi) → r.lo < 2 ^ 64 → r.found ≡ true → Improved vs marks i best r
+      (x : Terminals) → r ≡ Some x → FreeIn vs marks i (number_of x) → ((v : ℕ) → FreeIn vs marks i v → number_of x ≤ v)
+      → ((y : Terminals) → best ≡ Some y → number_of x ≤ number_of y) → x.lo < 2 ^ 64 → Improved vs marks i best r
 
 -- v is a string of A's that is not marked, of a production below `end`
-pub record Free (u : Layout) (links result marks : List ℕ) (A end v : ℕ) : Type 0 where
+pub record Free (u : Layout) (links : Links) (result marks : List ℕ) (A end v : ℕ) : Type 0 where
   pub i : ℕ
   pub below : i < end
   pub inside : i < u.p
@@ -137,16 +137,21 @@ pub record Free (u : Layout) (links result marks : List ℕ) (A end v : ℕ) : T
   pub here : FreeIn (numbers_at u result i) marks i v
 
 -- the least of these, or none
-pub record Least (u : Layout) (links result marks : List ℕ) (A end : ℕ) (l : Lack) : Type 0 where
-  pub none : l.found ≡ false → (v : ℕ) → ¬ Free u links result marks A end v
-  pub some : l.found ≡ true → Free u links result marks A end (value l.lo l.hi)
-  pub least : l.found ≡ true → (v : ℕ) → Free u links result marks A end v → value l.lo l.hi ≤ v
-  pub fits : l.found ≡ true → l.lo < 2 ^ 64
+pub record Least (u : Layout) (links : Links) (result marks : List ℕ) (A end : ℕ) (l : Option Terminals) : Type 0 where
+  pub none : l ≡ None → (v : ℕ) → ¬ Free u links result marks A end v
+  pub some : (x : Terminals) → l ≡ Some x → Free u links result marks A end (number_of x)
+  pub least : (x : Terminals) → l ≡ Some x → (v : ℕ) → Free u links result marks A end v → number_of x ≤ v
+  pub fits : (x : Terminals) → l ≡ Some x → x.lo < 2 ^ 64
 
--- the first nonterminal of level k with such a string, below the one that was told so far
-pub data Lacked (u : Layout) (links κ result marks : List ℕ) (k : ℕ) (m r : Missed) : Type 0 where
-  none : ((A : ℕ) → A < m.nonterminal → get_or κ A 0 ≡ k → (v : ℕ) → ¬ Free u links result marks A u.p v) → r ≡ m → Lacked u links κ result marks k m r
+-- what was missed so far comes before the nonterminals behind it
+abbrev pub end_of : ℕ → Option Missed → ℕ
+end_of n (Some m) = m.nonterminal
+end_of n None = n
+
+-- the first nonterminal of level k with such a string, before the one that was told so far
+pub data Lacked (u : Layout) (links : Links) (κ result marks : List ℕ) (k : ℕ) (m r : Option Missed) : Type 0 where
+  none : ((A : ℕ) → A < end_of u.n m → get_or κ A 0 ≡ k → (v : ℕ) → ¬ Free u links result marks A u.p v) → r ≡ m → Lacked u links κ result marks k m r
   some :
-      r.nonterminal < m.nonterminal → get_or κ r.nonterminal 0 ≡ k → Free u links result marks r.nonterminal u.p (value r.lo r.hi)
-      → ((v : ℕ) → Free u links result marks r.nonterminal u.p v → value r.lo r.hi ≤ v)
-      → ((A : ℕ) → A < r.nonterminal → get_or κ A 0 ≡ k → (v : ℕ) → ¬ Free u links result marks A u.p v) → r.lo < 2 ^ 64 → Lacked u links κ result marks k m r
+      (x : Missed) → r ≡ Some x → x.nonterminal < end_of u.n m → get_or κ x.nonterminal 0 ≡ k → Free u links result marks x.nonterminal u.p (number_of x.string)
+      → ((v : ℕ) → Free u links result marks x.nonterminal u.p v → number_of x.string ≤ v)
+      → ((A : ℕ) → A < x.nonterminal → get_or κ A 0 ≡ k → (v : ℕ) → ¬ Free u links result marks A u.p v) → x.string.lo < 2 ^ 64 → Lacked u links κ result marks k m r

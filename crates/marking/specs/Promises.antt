@@ -9,21 +9,20 @@ use Rattle.engine.specs.Call.{result_needed, scratch_needed, wiped}
 use Rattle.decision_theory.specs.Needed.{Decided, Reads, decisions}
 use Rattle.decision_theory.specs.Automaton.{AllAre, LowestRefused}
 use Rattle.decision_theory.specs.Marking.{Row, row_at, AllGiven, Bad, FirstBad, FirstMissing, Mark as Marking, CallMarked, automata_rows}
-use Rattle.marking.specs.declared.answer.Mark.{Mark}
 use Rattle.marking.specs.Rows.{rows_in}
-use Rattle.marking.specs.Call.{width_in, record_of, Promised}
+use Rattle.marking.specs.Call.{Record, width_in, record_of, Promised}
 
 -- Two outcomes of one input are the same, in all numbers and every lent word.
 abbrev pub MarkOne : Type 0
-MarkOne = (limit c : ℕ) (table rows result scratch : List ℕ) (r s : Mark) (R S R' S' : List ℕ)
+MarkOne = (limit c : ℕ) (table rows result scratch : List ℕ) (r s : Record) (R S R' S' : List ℕ)
     → Promised limit c table rows result scratch r R S → Promised limit c table rows result scratch s R' S' → (r ≡ s) × (R ≡ R') × (S ≡ S')
 
 -- what holds for every outcome
-abbrev Always : ((limit c : ℕ) (table rows result scratch : List ℕ) (r : Mark) (R S : List ℕ) → Type 0) → Type 0
-Always P = (limit c : ℕ) (table rows result scratch : List ℕ) (r : Mark) (R S : List ℕ) → Promised limit c table rows result scratch r R S → P limit c table rows result scratch r R S
+abbrev Always : ((limit c : ℕ) (table rows result scratch : List ℕ) (r : Record) (R S : List ℕ) → Type 0) → Type 0
+Always P = (limit c : ℕ) (table rows result scratch : List ℕ) (r : Record) (R S : List ℕ) → Promised limit c table rows result scratch r R S → P limit c table rows result scratch r R S
 
 -- The record is that of the answer which the rules give; it is one only.
-pub record Answers (limit c : ℕ) (table rows result scratch : List ℕ) (r : Mark) : Type 0 where
+pub record Answers (limit c : ℕ) (table rows result scratch : List ℕ) (r : Record) : Type 0 where
   pub case : Answer Marking
   pub answered : CallMarked limit c table (length result) (length scratch) (rows_in (width_in table) rows) case
   pub told : r ≡ record_of (width_in table) case
@@ -59,7 +58,7 @@ TwentyFourExactly = Always (λ limit c table rows result scratch r R S. (i : ℕ
     → ((r.refusal ≡ 24) × (r.row ≡ i)) ↔ Decides limit c table rows result scratch (λ g ρ. FirstBad g ρ i))
 
 -- No row is bad, and a string is the first that is missing, of the nonterminal that is told and with the two words that are told.
-pub record MissingTold (g : Grammar) (w : ℕ) (ρ : List Row) (r : Mark) : Type 0 where
+pub record MissingTold (g : Grammar) (w : ℕ) (ρ : List Row) (r : Record) : Type 0 where
   pub none-bad : (i : ℕ) → ¬ Bad g ρ i
   pub z : Str
   pub first : FirstMissing g ρ r.nonterminal z
@@ -113,7 +112,7 @@ AutomataAccepted = Always (λ limit c table rows result scratch r R S. (ds : Lis
 
 -- So, outright, are those rows written in words.
 abbrev pub WrittenAccepted : Type 0
-WrittenAccepted = (limit c : ℕ) (table : List ℕ) (ρ : List Row) (result scratch : List ℕ) (r : Mark) (R S : List ℕ)
+WrittenAccepted = (limit c : ℕ) (table : List ℕ) (ρ : List Row) (result scratch : List ℕ) (r : Record) (R S : List ℕ)
     → Promised limit c table (words_of (width_in table) ρ) result scratch r R S
     → (ds : List Decided) → AllAre limit c table (length result) (length scratch) ds
     → ((x : Row) → x ∈ ρ ↔ x ∈ automata_rows ds) → ((i j : ℕ) → i < j → j < length ρ → ¬ (row_at ρ i ≡ row_at ρ j)) → r.refusal ≡ 0

@@ -3,60 +3,48 @@
 #![tactic(auto)]
 
 ghost use Rattle.std.specs.Prelude.{◌≡◌, ◌*◌, ◌≤◌, length};
-ghost use Rattle.marking.specs.Lines.{Stand};
+ghost use Rattle.marking.specs.Lines.{Stand, end_of};
 ghost use Rattle.decision.specs.Steps.{Given, grammar_of};
 ghost use Rattle.decision.specs.Onward.{Known};
-ghost use Rattle.marking.specs.Call.{Promised};
+ghost use Rattle.marking.specs.Call.{recorded, Promised, PassedOn};
 ghost use Rattle.marking.specs.Levels.{AtLevel, Before, MadeStand, Turn, AllFound, told_of, RowsMarked};
 
-use crate::answer::Mark;
+pub use crate::answer::MarkError;
 use crate::lack::{Missed, lack_all};
 use crate::look::check_rows;
-use decision::joined::{first_refusal, join_k, plan_of, wipe_both};
-use decision::{Layout, needed_k};
+use decision::joined::{all_ks, join_k, plan_of, wipe_both};
+use decision::{Layout, Links, needed_k};
 
 pub mod answer;
 mod bits;
 mod lack;
 mod look;
 
-// What was found so far: the first bad row, or how many rows are whole; the first nonterminal with a string without a row, and the string, or the number of
-// all nonterminals.
+// What was found so far: the first bad row, or how many rows are whole; and the first string without a row.
+// Kept: `bad` is a number. Rows are looked through up to it, found or not, and a row that is cut off is told by it too.
 #[derive(Clone, Copy)]
 pub struct Found {
     pub bad: usize,
-    pub nonterminal: usize,
-    pub lo: u64,
-    pub hi: u64,
+    pub missed: Option<Missed>,
 }
 
 // Looks through level k, by the sets that stand in the result: the rows, and then the strings without a row.
 fn mark_level(
     k: u64,
     u: Layout,
-    links: &[usize; 1152],
+    links: &Links,
     ks: &[u64; 128],
     res: &[u64],
     rows: &[u64],
     f: Found,
 ) -> Found
-    requires { Stand u links.now ks.now res.now × ((4 * f.bad ≤ length rows.now) × (f.nonterminal ≤ u.n)) }
+    requires { Stand u links.now ks.now res.now × ((4 * f.bad ≤ length rows.now) × (end_of u.n f.missed ≤ u.n)) }
     ensures { AtLevel k u links.now ks.now res.now rows.now f result }
 {
     let mut marks = [0u64; 8192];
     let bad = check_rows(k, u, links, ks, res, &mut marks, rows, f.bad);
-    let before = Missed {
-        nonterminal: f.nonterminal,
-        lo: f.lo,
-        hi: f.hi,
-    };
-    let m = lack_all(k, u, links, ks, res, &marks, before);
-    Found {
-        bad,
-        nonterminal: m.nonterminal,
-        lo: m.lo,
-        hi: m.hi,
-    }
+    let missed = lack_all(k, u, links, ks, res, &marks, f.missed);
+    Found { bad, missed }
 }
 
 // Makes the sets of level k stand in the result; there are none at level 0.
@@ -66,7 +54,7 @@ fn stand_at(
     c: u64,
     table: &[u8],
     u: Layout,
-    links: &[usize; 1152],
+    links: &Links,
     ks: &[u64; 128],
     res: &mut [u64],
     scratch: &mut [u64],
@@ -87,14 +75,14 @@ fn turn(
     c: u64,
     table: &[u8],
     u: Layout,
-    links: &[usize; 1152],
+    links: &Links,
     ks: &[u64; 128],
     rows: &[u64],
     res: &mut [u64],
     scratch: &mut [u64],
     f: Found,
 ) -> Found
-    requires { (((Given limit c table.now u links.now (length res.old) (length scratch.old) × (k ≤ 10)) × Known limit c (grammar_of table.now) ks.now) × Before (grammar_of table.now) u k res.old) × ((4 * f.bad ≤ length rows.now) × (f.nonterminal ≤ u.n)) }
+    requires { (((Given limit c table.now u links.now (length res.old) (length scratch.old) × (k ≤ 10)) × Known limit c (grammar_of table.now) ks.now) × Before (grammar_of table.now) u k res.old) × ((4 * f.bad ≤ length rows.now) × (end_of u.n f.missed ≤ u.n)) }
     ensures { Turn c (grammar_of table.now) u k ks.now rows.now f result res.old scratch.old res.new scratch.new }
 {
     stand_at(k, limit, c, table, u, links, ks, res, scratch);
@@ -107,7 +95,7 @@ fn find_all(
     c: u64,
     table: &[u8],
     u: Layout,
-    links: &[usize; 1152],
+    links: &Links,
     ks: &[u64; 128],
     rows: &[u64],
     res: &mut [u64],
@@ -118,48 +106,30 @@ fn find_all(
 {
     let mut f = Found {
         bad: rows.len() / 4,
-        nonterminal: u.n,
-        lo: 0,
-        hi: 0,
+        missed: None,
     };
-    let mut k: u64 = 0;
-    while k < 11 {
+    for k in 0..11 {
         f = turn(k, limit, c, table, u, links, ks, rows, res, scratch, f);
-        k += 1;
     }
     f
 }
 
 // What was found in so many words of rows, as the answer.
-fn told(f: Found, words: usize, n: usize) -> Mark
+fn told(f: Found, words: usize) -> Result<(), MarkError>
     requires { 4 * f.bad ≤ words }
-    ensures { result ≡ told_of words n f }
+    ensures told { recorded result ≡ told_of words f }
+    ensures passed { PassedOn result }
 {
     if 4 * f.bad < words {
-        return Mark {
-            refusal: 24,
-            row: f.bad as u64,
-            nonterminal: 0,
-            lo: 0,
-            hi: 0,
-        };
+        return Err(MarkError::BadRow(f.bad as u64));
     }
-    if f.nonterminal < n {
-        return Mark {
-            refusal: 25,
-            row: 0,
-            nonterminal: f.nonterminal as u64,
-            lo: f.lo,
-            hi: f.hi,
-        };
+    if let Some(m) = f.missed {
+        return Err(MarkError::Missing {
+            nonterminal: m.nonterminal as u64,
+            string: m.string,
+        });
     }
-    Mark {
-        refusal: 0,
-        row: 0,
-        nonterminal: 0,
-        lo: 0,
-        hi: 0,
-    }
+    Ok(())
 }
 
 // Marks the rows for a table all of whose nonterminals are decided.
@@ -168,20 +138,19 @@ fn on_rows(
     c: u64,
     table: &[u8],
     u: Layout,
-    links: &[usize; 1152],
+    links: &Links,
     ks: &[u64; 128],
     rows: &[u64],
     res: &mut [u64],
     scratch: &mut [u64],
-) -> Mark
+) -> Result<(), MarkError>
     requires { (Given limit c table.now u links.now (length res.old) (length scratch.old) × Known limit c (grammar_of table.now) ks.now) × Before (grammar_of table.now) u 0 res.old }
-    ensures { RowsMarked c (grammar_of table.now) rows.now res.old scratch.old result res.new scratch.new }
+    ensures marked { RowsMarked c (grammar_of table.now) rows.now res.old scratch.old (recorded result) res.new scratch.new }
+    ensures passed { PassedOn result }
 {
     let f = find_all(limit, c, table, u, links, ks, rows, res, scratch);
-    let words = rows.len();
-    let m = told(f, words, u.n);
     wipe_both(limit, c, table, u, links, res, scratch);
-    m
+    told(f, rows.len())
 }
 
 // Marks a prediction table, four words a row: a nonterminal, a string's two words, low word first, and a production. For each nonterminal k up to the limit
@@ -193,22 +162,12 @@ pub fn mark(
     rows: &[u64],
     res: &mut [u64],
     scratch: &mut [u64],
-) -> Mark
-    ensures { Promised limit c table.now rows.now res.old scratch.old result res.new scratch.new }
+) -> Result<(), MarkError>
+    ensures promised { Promised limit c table.now rows.now res.old scratch.old (recorded result) res.new scratch.new }
+    ensures passed { PassedOn result }
 {
-    let needed = needed_k(limit, c, table, res, scratch);
-    let refusals = needed.refusals;
-    let refusal = first_refusal(needed.refusal, &refusals);
-    if refusal != 0 {
-        return Mark {
-            refusal,
-            row: 0,
-            nonterminal: 0,
-            lo: 0,
-            hi: 0,
-        };
-    }
-    let ks = needed.ks;
+    let needed = needed_k(limit, c, table, res, scratch)?;
+    let ks = all_ks(&needed.answers)?;
     let plan = plan_of(limit, c, table);
     let links = plan.links;
     on_rows(

@@ -7,29 +7,29 @@ ghost use Rattle.blocks.specs.Stores.{Sets};
 ghost use Rattle.marking.specs.Lines.{numbers_in, numbers_at, Placed, Stand, level_of, line_at, MarkTaken, LineTaken, Checked};
 
 use crate::bits::{is_marked, set_mark};
-use decision::Layout;
+use decision::{Layout, Links};
 use k_tuple::Terminals;
 use k_tuple::parts::same;
 use k_tuples::set::{count, index, member, place};
 
-// The place of x in a set, by halving; the number of its words where it is not there.
-fn seek_in(set: &[u64], x: Terminals) -> usize
+// The place of x in a set, by halving.
+fn seek_in(set: &[u64], x: Terminals) -> Option<usize>
     requires { IsSet set.now }
-    ensures { Placed (numbers_in set.now) (number_of x) (length set.now) result }
+    ensures { Placed (numbers_in set.now) (number_of x) result }
 {
     let p = place(set, x);
     if p < count(set) {
         if same(x, member(set, p)) {
-            return p;
+            return Some(p);
         }
     }
-    set.len()
+    None
 }
 
-// The place of x in production i's set; the size of a block where it is not there.
-fn seek(res: &[u64], u: Layout, i: usize, x: Terminals) -> usize
+// The place of x in production i's set.
+fn seek(res: &[u64], u: Layout, i: usize, x: Terminals) -> Option<usize>
     requires { Sets u.b u.sets res.now × (u.n + i < u.sets) }
-    ensures { Placed (numbers_at u res.now i) (number_of x) u.b result }
+    ensures { Placed (numbers_at u res.now i) (number_of x) result }
 {
     let b = u.b;
     let at = (u.n + i) * b;
@@ -42,10 +42,9 @@ fn take_mark(u: Layout, res: &[u64], marks: &mut [u64; 8192], i: usize, x: Termi
     requires { (Sets u.b u.sets res.now × (u.b ≤ 2049)) × ((u.n + i < u.sets) × ((i < 512) × (length marks.old ≡ 8192))) }
     ensures { MarkTaken (numbers_at u res.now i) i (number_of x) marks.old marks.new result }
 {
-    let j = seek(res, u, i, x);
-    if u.b <= j {
+    let Some(j) = seek(res, u, i, x) else {
         return false;
-    }
+    };
     let e = 1024 * i + j;
     if is_marked(marks, e) {
         return false;
@@ -55,6 +54,7 @@ fn take_mark(u: Layout, res: &[u64], marks: &mut [u64; 8192], i: usize, x: Termi
 }
 
 // The k of nonterminal a, 0 where there is no such nonterminal.
+// Kept: no Option. Such a row is of level 0 by the definition `level_of`, where every row is bad.
 fn level(ks: &[u64; 128], n: usize, a: u64) -> u64
     requires { n ≤ 128 }
     ensures { result ≡ level_of n ks.now a }
@@ -70,7 +70,7 @@ fn level(ks: &[u64; 128], n: usize, a: u64) -> u64
 fn take_line(
     k: u64,
     u: Layout,
-    links: &[usize; 1152],
+    links: &Links,
     ks: &[u64; 128],
     res: &[u64],
     marks: &mut [u64; 8192],
@@ -88,7 +88,7 @@ fn take_line(
     if u.p <= own {
         return false;
     }
-    if links[own] != index(a) {
+    if links.left[own] != index(a) {
         return false;
     }
     take_mark(u, res, marks, own, x)
@@ -98,7 +98,7 @@ fn take_line(
 fn take_row(
     k: u64,
     u: Layout,
-    links: &[usize; 1152],
+    links: &Links,
     ks: &[u64; 128],
     res: &[u64],
     marks: &mut [u64; 8192],
@@ -121,7 +121,7 @@ fn take_row(
 pub fn check_rows(
     k: u64,
     u: Layout,
-    links: &[usize; 1152],
+    links: &Links,
     ks: &[u64; 128],
     res: &[u64],
     marks: &mut [u64; 8192],
@@ -131,12 +131,10 @@ pub fn check_rows(
     requires { (Stand u links.now ks.now res.now × (marks.old ≡ replicate 8192 0)) × (4 * end ≤ length rows.now) }
     ensures { Checked u links.now ks.now res.now k rows.now end marks.new result }
 {
-    let mut t = 0;
-    while t < end {
-        if take_row(k, u, links, ks, res, marks, rows, t) {} else {
+    for t in 0..end {
+        if !take_row(k, u, links, ks, res, marks, rows, t) {
             return t;
         }
-        t += 1;
     }
     end
 }

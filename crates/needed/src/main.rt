@@ -2,12 +2,14 @@
 #![tactic(auto)]
 
 use std::io;
+use std::io::Write;
+use streams::{Out, read_full};
 
 // It reads no more than 16,384 bytes, which no accepted input passes.
 fn main(rt: HostRuntime) -> io::Result<()> {
     let mut input = [0u8; 16384];
-    let n = streams::read_full(&mut rt.reader(), &mut input)?;
-    let mut out = [0u8; 4096];
-    let at = lines::put_needed(&rt, &mut out, 0, &input[..n])?;
-    lines::flush(&rt, &out, at)
+    let n = read_full(&mut rt.reader(), &mut input)?;
+    let mut out = Out::new(&rt);
+    lines::put_needed(&mut out, &input[..n])?;
+    out.flush()
 }

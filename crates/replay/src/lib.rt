@@ -1,15 +1,17 @@
 // Stored cases as text, one to a line: a word, then columns of hexadecimal numbers. Columns are parted by `|`, numbers by spaces.
 #![tactic(auto)]
 
-ghost use Rattle.std.specs.Prelude.{◌≡◌, ◌≤◌, length};
+ghost use Rattle.std.specs.Prelude.{◌≤◌, length, IfSome};
 ghost use Rattle.io.specs.Counts.{IsPrefixLen};
+
+use std::io;
 
 mod print;
 
 pub use print::{decimal, readable, refused, slots, told, truth, words};
 
 // What stands at a place of a line, and the place behind it.
-#[derive(Clone, Copy)]
+#[derive(Clone, Copy, Debug, PartialEq, Eq)]
 enum Token {
     Number { value: u64, next: usize },
     Bar { next: usize },
@@ -17,50 +19,42 @@ enum Token {
     Unreadable,
 }
 
-// What was read of a column: how many numbers, whether it is the line's last, and where the next one starts.
-// Where it is not ok, the line is unreadable.
-#[derive(Clone, Copy)]
+// What was read of a column: how many numbers, and where the next column starts if it is not the line's last.
+#[derive(Clone, Copy, Debug, PartialEq, Eq)]
 pub struct Column {
-    pub ok: bool,
-    pub last: bool,
     pub count: usize,
-    pub next: usize,
+    pub next: Option<usize>,
 }
 
-fn wide(b: u8) -> u64
-    ensures { result ≡ b }
+// The digit that a byte writes, if it writes one.
+fn digit(b: u8) -> Option<u64>
+    ensures { IfSome result (λ d. d ≤ 15) }
 {
-    b as u64
-}
-
-// The digit that a byte writes, 16 where it writes none.
-fn digit(b: u8) -> u64 {
     match b {
-        b'0'..=b'9' => wide(b) - 48,
-        b'a'..=b'f' => wide(b) - 87,
-        _ => 16,
+        b'0'..=b'9' => Some(u64::from(b) - 48),
+        b'a'..=b'f' => Some(u64::from(b) - 87),
+        _ => None,
     }
 }
 
 // The number of at most 64 bits that starts at a place.
 fn number_at(line: &[u8], at: usize) -> Token {
     let mut value = 0;
-    let mut i = at;
-    while i < line.len() {
-        let d = digit(line[i]);
-        if 15 < d {
+    let mut end = at;
+    for i in at..line.len() {
+        let Some(d) = digit(line[i]) else {
             break;
-        }
+        };
         if 0xfff_ffff_ffff_ffff < value {
             return Token::Unreadable;
         }
         value = value * 16 + d;
-        i += 1;
+        end = i + 1;
     }
-    if i == at {
+    if end == at {
         return Token::Unreadable;
     }
-    Token::Number { value, next: i }
+    Token::Number { value, next: end }
 }
 
 fn token_at(line: &[u8], at: usize) -> Token {
@@ -75,46 +69,43 @@ fn token_at(line: &[u8], at: usize) -> Token {
     Token::End
 }
 
-// Reads the column that starts at a place. One that has as many numbers as are lent, or more, is unreadable.
-pub fn read_column(line: &[u8], at: usize, into: &mut [u64]) -> Column
-    ensures { IsPrefixLen result.count into.new }
+// Reads the column that starts at a place. One that has as many numbers as are lent, or more, is unreadable, as is one with anything but numbers.
+pub fn read_column(line: &[u8], at: usize, into: &mut [u64]) -> Option<Column>
+    ensures { IfSome result (λ c. IsPrefixLen c.count into.new) }
 {
-    let mut count = 0;
     let mut i = at;
-    while count < into.len() {
+    for count in 0..into.len() {
         match token_at(line, i) {
             Token::Number { value, next } => {
                 into[count] = value;
-                count += 1;
                 i = next;
             }
             Token::Bar { next } => {
-                return Column {
-                    ok: true,
-                    last: false,
+                return Some(Column {
                     count,
-                    next,
-                };
+                    next: Some(next),
+                });
             }
             Token::End => {
-                return Column {
-                    ok: true,
-                    last: true,
-                    count,
-                    next: line.len(),
-                };
+                return Some(Column { count, next: None });
             }
             Token::Unreadable => {
-                break;
+                return None;
             }
         }
     }
-    Column {
-        ok: false,
-        last: false,
-        count,
-        next: i,
+    None
+}
+
+// Reads the column that starts at a place and is the line's last, and tells how many numbers it has.
+pub fn read_last(line: &[u8], at: usize, into: &mut [u64]) -> Option<usize>
+    ensures { IfSome result (λ n. IsPrefixLen n into.new) }
+{
+    let column = read_column(line, at, into)?;
+    if column.next.is_some() {
+        return None;
     }
+    Some(column.count)
 }
 
 // The first place from `at` on where a byte stands, or the end of the text.
@@ -130,15 +121,19 @@ pub fn find(text: &[u8], at: usize, b: u8) -> usize
     text.len()
 }
 
-// Whether a text is this word.
-pub fn is(text: &[u8], word: &[u8]) -> bool {
-    if text.len() != word.len() {
-        return false;
+// Runs each line of a text, and says where one is no case.
+pub fn each<F: FnMut(&[u8]) -> io::Result<bool>>(
+    rt: &impl Print,
+    text: &[u8],
+    mut run: F,
+) -> io::Result<()>
+    requires { F.IsAlwaysCallable run }
+{
+    let mut at = 0;
+    while at < text.len() {
+        let end = find(text, at, b'\n');
+        readable(rt, run(&text[at..end])?)?;
+        at = end + 1;
     }
-    for i in 0..text.len() {
-        if text[i] != word[i] {
-            return false;
-        }
-    }
-    true
+    Ok(())
 }

@@ -50,16 +50,12 @@ pub fn words(rt: &impl Print, ws: &[u64]) -> io::Result<()> {
     Ok(())
 }
 
-fn wide(x: u16) -> u64 {
-    x as u64
-}
-
 // A space, and the slots in decimal.
 pub fn slots(rt: &impl Print, xs: &[u16]) -> io::Result<()> {
     rt.write_all(b" ")?;
     for (i, x) in xs.iter().enumerate() {
         parted(rt, i)?;
-        decimal(rt, wide(*x))?;
+        decimal(rt, u64::from(*x))?;
     }
     Ok(())
 }

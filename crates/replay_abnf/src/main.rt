@@ -2,59 +2,46 @@
 // of ten bytes: the number of bytes that are lent for its table and its length, four hexadecimal digits each.
 #![tactic(auto)]
 
-use abnf::grammar::{TableAnswer, read_abnf};
-use replay::{decimal, read_column, told};
+use abnf::grammar::read_abnf;
+use abnf_tables::refused::Refused;
+use replay::{read_last, told};
 use replay_tables::{MARK_BYTE, kept, pairs};
 use std::io;
 use std::io::Read;
 use streams::read_full;
 
 // What the line before a text says.
-#[derive(Clone, Copy)]
+#[derive(Clone, Copy, Debug, PartialEq, Eq)]
 struct Case {
-    ok: bool,
     room: usize,
     length: usize,
 }
 
-fn head(line: &[u8]) -> Case {
+fn head(line: &[u8]) -> Option<Case> {
     let mut n = [0u64; 3];
-    let column = read_column(line, 0, &mut n);
-    Case {
-        ok: column.ok && column.last && column.count == 2,
+    if read_last(line, 0, &mut n)? != 2 {
+        return None;
+    }
+    Some(Case {
         room: n[0] as usize,
         length: n[1] as usize,
-    }
+    })
 }
 
-fn wide(x: u16) -> u64 {
-    x as u64
-}
-
-// A refusal and its place; 10 has none.
-fn refused(rt: &impl Print, number: u16, place: u16) -> io::Result<()> {
-    rt.write_all(b"refused ")?;
-    decimal(rt, wide(number))?;
-    if number != 10 {
-        rt.write_all(b" at ")?;
-        decimal(rt, wide(place))?;
-    }
-    Ok(())
-}
-
-fn told_answer(rt: &impl Print, a: TableAnswer, table: &[u8]) -> io::Result<()> {
-    match a {
-        TableAnswer::Written(n) => {
+// The table, or the refusal and its place; and behind it how the other bytes stand.
+fn told_answer(rt: &impl Print, a: Result<usize, Refused>, table: &[u8]) -> io::Result<()> {
+    let written = match a {
+        Ok(n) => {
             pairs(rt, table, n)?;
-            told(rt, b"")?;
-            kept(rt, table, n)
+            n
         }
-        TableAnswer::Refused { number, place } => {
-            refused(rt, number, place)?;
-            told(rt, b"")?;
-            kept(rt, table, 0)
+        Err(e) => {
+            print!(rt; "{e}")?;
+            0
         }
-    }
+    };
+    told(rt, b"")?;
+    kept(rt, table, written)
 }
 
 // The answer to a text with so many of some bytes lent; false where they are more than there are.
@@ -90,11 +77,10 @@ fn next(rt: &impl Print, input: &mut impl Read, text: &mut [u8]) -> io::Result<b
     if read_full(input, &mut line)? == 0 {
         return Ok(false);
     }
-    let h = head(&line[0..9]);
-    if !h.ok {
+    let Some(h) = head(&line[0..9]) else {
         told(rt, b"unreadable")?;
         return Ok(false);
-    }
+    };
     if run_text(rt, input, h, text)? {
         return Ok(true);
     }

@@ -3,29 +3,32 @@
 #![tactic(auto)]
 
 use automaton::automata;
-use replay::{find, is, read_column, readable, refused, told};
-use replay_tables::{MARK, MARK_BYTE, kept, narrowed, pairs, wiped};
+use refusals::Refusal;
+use replay::{each, refused, told};
+use replay_tables::{MARK, MARK_BYTE, kept, narrowed, pairs, read_case, wiped};
 use std::io;
 
-fn index(x: u64) -> usize {
-    x as usize
-}
-
 // The bytes that were written, and that those behind them are as they came; or the refusal, and that all are.
-fn told_answer(rt: &impl Print, refusal: u64, count: usize, out: &[u8]) -> io::Result<()> {
-    if refusal != 0 {
-        refused(rt, refusal)?;
-        kept(rt, out, 0)?;
-        return Ok(());
+fn told_answer(rt: &impl Print, answer: Result<usize, Refusal>, out: &[u8]) -> io::Result<()> {
+    match answer {
+        Ok(count) => {
+            pairs(rt, out, count)?;
+            told(rt, b"")?;
+            kept(rt, out, count)
+        }
+        Err(e) => {
+            refused(rt, u64::from(e))?;
+            kept(rt, out, 0)
+        }
     }
-    pairs(rt, out, count)?;
-    told(rt, b"")?;
-    kept(rt, out, count)
 }
 
 // A refusal by 1 to 9 leaves every word as it came, and 10 for too few bytes does not; else there are zeros before the marks.
-fn told_words(rt: &impl Print, refusal: u64, words: &[u64]) -> io::Result<()> {
-    let some = (refusal == 0) | (9 < refusal);
+fn told_words(rt: &impl Print, answer: Result<usize, Refusal>, words: &[u64]) -> io::Result<()> {
+    let some = match answer {
+        Ok(_) => true,
+        Err(e) => 9 < u64::from(e),
+    };
     if !wiped(words, some) {
         told(rt, b"lent words changed")?;
     }
@@ -54,9 +57,9 @@ fn answer(
         &mut result,
         &mut scratch,
     );
-    told_answer(rt, a.refusal, index(a.bytes), out)?;
-    told_words(rt, a.refusal, &result)?;
-    told_words(rt, a.refusal, &scratch)?;
+    told_answer(rt, a, out)?;
+    told_words(rt, a, &result)?;
+    told_words(rt, a, &scratch)?;
     Ok(true)
 }
 
@@ -68,39 +71,22 @@ fn run_table(rt: &impl Print, limit: u64, c: u64, room: u64, xs: &[u64]) -> io::
     if n != xs.len() {
         return Ok(false);
     }
-    answer(rt, limit, c, index(room), &table[..n], &mut out)
+    answer(rt, limit, c, room as usize, &table[..n], &mut out)
 }
 
 // Runs the case of a line; false where it is none.
 fn run(rt: &impl Print, line: &[u8]) -> io::Result<bool> {
-    let end = find(line, 0, b' ');
-    if !is(&line[0..end], b"automata") {
-        return Ok(false);
-    }
     let mut head = [0u64; 4];
     let mut xs = [0u64; 512];
-    let h = read_column(line, end, &mut head);
-    let x = read_column(line, h.next, &mut xs);
-    let count = x.count;
-    if !h.ok || h.last || h.count != 3 || !x.ok || !x.last {
+    let Some(count) = read_case(line, b"automata", 3, &mut head, &mut xs) else {
         return Ok(false);
-    }
+    };
     run_table(rt, head[0], head[1], head[2], &xs[..count])
-}
-
-fn each(rt: &impl Print, text: &[u8]) -> io::Result<()> {
-    let mut at = 0;
-    while at < text.len() {
-        let end = find(text, at, b'\n');
-        readable(rt, run(rt, &text[at..end])?)?;
-        at = end + 1;
-    }
-    Ok(())
 }
 
 // It reads no more than 65,536 bytes.
 fn main(rt: HostRuntime) -> io::Result<()> {
     let mut text = [0u8; 65536];
     let n = streams::read_full(&mut rt.reader(), &mut text)?;
-    each(&rt, &text[..n])
+    each(&rt, &text[..n], |line| run(&rt, line))
 }

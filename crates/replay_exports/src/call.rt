@@ -2,7 +2,7 @@
 // Two words more are lent of each, and seventeen for the record, or fewer.
 ghost use Rattle.std.specs.Prelude.{◌≤◌};
 
-use crate::print::{MARK, line_3, line_17, words_42};
+use crate::print::{MARK, line, more};
 use exports::{jomankitu_lookahead_sets, jomankitu_set_of};
 use std::io;
 
@@ -27,9 +27,9 @@ fn lookahead_sets(
         &mut scratch,
         &mut answer[0..n],
     );
-    line_17(rt, b"lookahead_sets", r, &answer)?;
-    words_42(rt, &result)?;
-    words_42(rt, &scratch)
+    line(rt, b"lookahead_sets", r, &answer)?;
+    more(rt, &result)?;
+    more(rt, &scratch)
 }
 
 // In a result of 42 words.
@@ -38,7 +38,7 @@ fn set_of(rt: &impl Print, kind: usize, number: usize, n: usize) -> io::Result<(
 {
     let mut out = [MARK; 3];
     let r = jomankitu_set_of(42, kind, number, 2, 3, 1, 2, &mut out[0..n]);
-    line_3(rt, b"set_of", r, &out)
+    line(rt, b"set_of", r, &out)
 }
 
 // The record and the sets; a room that is too small; words too few for the sets.

@@ -2,7 +2,7 @@
 // of 5 words and the scratch 6. More words are lent of each.
 ghost use Rattle.std.specs.Prelude.{◌≤◌};
 
-use crate::print::{MARK, bytes_16, line_2, line_5, line_258, words_42};
+use crate::print::{MARK, bytes, line, more};
 use exports::automata::jomankitu_automata;
 use exports::mark::jomankitu_mark;
 use exports::needed::jomankitu_needed_k;
@@ -22,9 +22,9 @@ fn needed_k(rt: &impl Print, limit: u64, table: &[u8], n: usize) -> io::Result<(
         &mut scratch,
         &mut answer[0..n],
     );
-    line_258(rt, b"needed_k", r, &answer)?;
-    words_42(rt, &result)?;
-    words_42(rt, &scratch)
+    line(rt, b"needed_k", r, &answer)?;
+    more(rt, &result)?;
+    more(rt, &scratch)
 }
 
 // Into 16 bytes or fewer, of which the automaton takes 15.
@@ -44,10 +44,10 @@ fn automata(rt: &impl Print, table: &[u8], room: usize) -> io::Result<()>
         &mut scratch,
         &mut answer,
     );
-    line_2(rt, b"automata", r, &answer)?;
-    bytes_16(rt, &out)?;
-    words_42(rt, &result)?;
-    words_42(rt, &scratch)
+    line(rt, b"automata", r, &answer)?;
+    bytes(rt, &out)?;
+    more(rt, &result)?;
+    more(rt, &scratch)
 }
 
 fn mark(rt: &impl Print, table: &[u8], rows: &[u64], n: usize) -> io::Result<()>
@@ -65,9 +65,9 @@ fn mark(rt: &impl Print, table: &[u8], rows: &[u64], n: usize) -> io::Result<()>
         &mut scratch,
         &mut answer[0..n],
     );
-    line_5(rt, b"mark", r, &answer)?;
-    words_42(rt, &result)?;
-    words_42(rt, &scratch)
+    line(rt, b"mark", r, &answer)?;
+    more(rt, &result)?;
+    more(rt, &scratch)
 }
 
 // Both rows, in width 4: accepted; the first alone: a string is missing; one and a half: the second row is bad; too few words for the answer.

@@ -23,25 +23,14 @@ fn number(rt: &impl Print, n: u64) -> io::Result<()> {
 }
 
 fn numbers(rt: &impl Print, ws: &[u64]) -> io::Result<()> {
-    for i in 0..ws.len() {
-        number(rt, ws[i])?;
-    }
-    Ok(())
-}
-
-fn byte(rt: &impl Print, b: u8) -> io::Result<()> {
-    number(rt, b as u64)
-}
-
-fn bytes(rt: &impl Print, bs: &[u8]) -> io::Result<()> {
-    for i in 0..bs.len() {
-        byte(rt, bs[i])?;
+    for w in ws {
+        number(rt, *w)?;
     }
     Ok(())
 }
 
 // A call, and its words in decimal.
-fn line(rt: &impl Print, name: &[u8], number: u64, ws: &[u64]) -> io::Result<()> {
+pub fn line(rt: &impl Print, name: &[u8], number: u64, ws: &[u64]) -> io::Result<()> {
     returned(rt, name, number)?;
     numbers(rt, ws)?;
     put(rt, b"\n")
@@ -54,52 +43,22 @@ fn packed(rt: &impl Print, text: &[u8], ws: &[u64]) -> io::Result<()> {
     put(rt, b"\n")
 }
 
-// These by the number of words: of a test, of a string, of a mark, of a string unpacked, of a set, of the record, of the needed ks, of the result and the
-// scratch; and of an automaton's bytes.
-pub fn line_2(rt: &impl Print, name: &[u8], number: u64, ws: &[u64; 2]) -> io::Result<()> {
-    line(rt, name, number, ws)
-}
-
-pub fn line_3(rt: &impl Print, name: &[u8], number: u64, ws: &[u64; 3]) -> io::Result<()> {
-    line(rt, name, number, ws)
-}
-
-pub fn line_5(rt: &impl Print, name: &[u8], number: u64, ws: &[u64; 5]) -> io::Result<()> {
-    line(rt, name, number, ws)
-}
-
-pub fn line_12(rt: &impl Print, name: &[u8], number: u64, ws: &[u64; 12]) -> io::Result<()> {
-    line(rt, name, number, ws)
-}
-
-pub fn line_17(rt: &impl Print, name: &[u8], number: u64, ws: &[u64; 17]) -> io::Result<()> {
-    line(rt, name, number, ws)
-}
-
-pub fn line_258(rt: &impl Print, name: &[u8], number: u64, ws: &[u64; 258]) -> io::Result<()> {
-    line(rt, name, number, ws)
-}
-
-pub fn string(rt: &impl Print, name: &[u8], number: u64, ws: &[u64; 3]) -> io::Result<()> {
+// A call, and its words as a string's or a set's are printed.
+pub fn packed_line(rt: &impl Print, name: &[u8], number: u64, ws: &[u64]) -> io::Result<()> {
     returned(rt, name, number)?;
     packed(rt, b" ", ws)
 }
 
-pub fn set(rt: &impl Print, name: &[u8], number: u64, ws: &[u64; 8]) -> io::Result<()> {
-    returned(rt, name, number)?;
-    packed(rt, b" ", ws)
-}
-
-pub fn words_8(rt: &impl Print, ws: &[u64; 8]) -> io::Result<()> {
+// Words that a call was lent besides, on a line of their own.
+pub fn more(rt: &impl Print, ws: &[u64]) -> io::Result<()> {
     packed(rt, b"  ", ws)
 }
 
-pub fn words_42(rt: &impl Print, ws: &[u64; 42]) -> io::Result<()> {
-    packed(rt, b"  ", ws)
-}
-
-pub fn bytes_16(rt: &impl Print, bs: &[u8; 16]) -> io::Result<()> {
+// Bytes that a call was lent, on a line of their own.
+pub fn bytes(rt: &impl Print, bs: &[u8]) -> io::Result<()> {
     put(rt, b" ")?;
-    bytes(rt, bs)?;
+    for b in bs {
+        number(rt, u64::from(*b))?;
+    }
     put(rt, b"\n")
 }

@@ -2,7 +2,7 @@
 // the upper half of a count word says; at 1 none is.
 ghost use Rattle.std.specs.Prelude.{◌≤◌};
 
-use crate::print::{MARK, line_2, set, words_8};
+use crate::print::{MARK, line, more, packed_line};
 use exports::sets::{
     jomankitu_all_complete, jomankitu_disjoint, jomankitu_intersection, jomankitu_join_sets,
     jomankitu_union,
@@ -17,8 +17,8 @@ fn union(rt: &impl Print, k: u64, a: &[u64], b: &[u64], room: usize, n: usize) -
     let mut out = [MARK; 8];
     let mut told = [MARK; 2];
     let r = jomankitu_union(k, a, b, &mut out[0..room], &mut told[0..n]);
-    line_2(rt, b"union", r, &told)?;
-    words_8(rt, &out)
+    line(rt, b"union", r, &told)?;
+    more(rt, &out)
 }
 
 fn intersection(rt: &impl Print, k: u64, a: &[u64], b: &[u64], room: usize) -> io::Result<()>
@@ -26,7 +26,7 @@ fn intersection(rt: &impl Print, k: u64, a: &[u64], b: &[u64], room: usize) -> i
 {
     let mut out = [MARK; 8];
     let r = jomankitu_intersection(k, a, b, &mut out[0..room]);
-    set(rt, b"intersection", r, &out)
+    packed_line(rt, b"intersection", r, &out)
 }
 
 fn join_sets(rt: &impl Print, k: u64, a: &[u64], b: &[u64], room: usize) -> io::Result<()>
@@ -34,7 +34,7 @@ fn join_sets(rt: &impl Print, k: u64, a: &[u64], b: &[u64], room: usize) -> io::
 {
     let mut out = [MARK; 8];
     let r = jomankitu_join_sets(k, a, b, &mut out[0..room]);
-    set(rt, b"join_sets", r, &out)
+    packed_line(rt, b"join_sets", r, &out)
 }
 
 fn disjoint(rt: &impl Print, k: u64, a: &[u64], b: &[u64], n: usize) -> io::Result<()>
@@ -42,7 +42,7 @@ fn disjoint(rt: &impl Print, k: u64, a: &[u64], b: &[u64], n: usize) -> io::Resu
 {
     let mut out = [MARK; 2];
     let r = jomankitu_disjoint(k, a, b, &mut out[0..n]);
-    line_2(rt, b"disjoint", r, &out)
+    line(rt, b"disjoint", r, &out)
 }
 
 fn all_complete(rt: &impl Print, k: u64, a: &[u64], n: usize) -> io::Result<()>
@@ -50,7 +50,7 @@ fn all_complete(rt: &impl Print, k: u64, a: &[u64], n: usize) -> io::Result<()>
 {
     let mut out = [MARK; 2];
     let r = jomankitu_all_complete(k, a, &mut out[0..n]);
-    line_2(rt, b"all_complete", r, &out)
+    line(rt, b"all_complete", r, &out)
 }
 
 // The union adds, or not; without room; with no word to tell it in, where 1 comes before 10.

@@ -2,9 +2,12 @@
 // rows are accepted. Both buffers are full of marks before a call, so that words left as they came are seen.
 #![tactic(auto)]
 
-use k_tuple::Terminals;
-use marking::mark;
-use replay::{decimal, find, is, read_column, readable, refused, slots, told};
+ghost use Rattle.std.specs.Prelude.{IfSome};
+ghost use Rattle.io.specs.Counts.{IsPrefixLen};
+
+use k_tuple::{Terminals, Unpacked};
+use marking::{MarkError, mark};
+use replay::{decimal, each, find, read_column, read_last, refused, slots, told};
 use replay_tables::{MARK, narrowed, wiped};
 use std::io;
 
@@ -26,7 +29,11 @@ fn used(slots: &[u16], length: u64) -> &[u16] {
 
 // A missing string, by its nonterminal and its slots.
 fn told_missing(rt: &impl Print, nonterminal: u64, string: Terminals) -> io::Result<()> {
-    let u = string.unpack();
+    let none = Unpacked {
+        length: 0,
+        slots: [0; 10],
+    };
+    let u = string.unpack().unwrap_or(none);
     let all = u.slots;
     rt.write_all(b"refused 25 ")?;
     decimal(rt, nonterminal)?;
@@ -35,29 +42,27 @@ fn told_missing(rt: &impl Print, nonterminal: u64, string: Terminals) -> io::Res
     told(rt, b"")
 }
 
-fn told_answer(
-    rt: &impl Print,
-    refusal: u64,
-    row: u64,
-    nonterminal: u64,
-    string: Terminals,
-) -> io::Result<()> {
-    if refusal == 0 {
-        told(rt, b"accepted")?;
-    } else if refusal == 24 {
-        told_bad(rt, row)?;
-    } else if refusal == 25 {
-        told_missing(rt, nonterminal, string)?;
-    } else {
-        refused(rt, refusal)?;
+fn told_answer(rt: &impl Print, m: Result<(), MarkError>) -> io::Result<()> {
+    match m {
+        Ok(()) => told(rt, b"accepted"),
+        Err(MarkError::BadRow(row)) => told_bad(rt, row),
+        Err(
+            MarkError::Missing {
+                nonterminal,
+                string,
+            },
+        ) => told_missing(rt, nonterminal, string),
+        Err(MarkError::Refused(e)) => refused(rt, u64::from(e)),
     }
-    Ok(())
 }
 
 // A refusal by 1 to 10 leaves every word as it came; else there are zeros before the marks.
-fn told_words(rt: &impl Print, refusal: u64, words: &[u64]) -> io::Result<()> {
-    let some = (refusal == 0) | (10 < refusal);
-    if !wiped(words, some) {
+fn told_words(rt: &impl Print, m: Result<(), MarkError>, words: &[u64]) -> io::Result<()> {
+    let untouched = match m {
+        Err(MarkError::Refused(e)) => u64::from(e) <= 10,
+        _ => false,
+    };
+    if !wiped(words, !untouched) {
         told(rt, b"lent words changed")?;
     }
     Ok(())
@@ -67,10 +72,9 @@ fn answer(rt: &impl Print, limit: u64, c: u64, table: &[u8], rows: &[u64]) -> io
     let mut result = [MARK; 16384];
     let mut scratch = [MARK; 16384];
     let m = mark(limit, c, table, rows, &mut result, &mut scratch);
-    let string = Terminals { lo: m.lo, hi: m.hi };
-    told_answer(rt, m.refusal, m.row, m.nonterminal, string)?;
-    told_words(rt, m.refusal, &result)?;
-    told_words(rt, m.refusal, &scratch)
+    told_answer(rt, m)?;
+    told_words(rt, m, &result)?;
+    told_words(rt, m, &scratch)
 }
 
 // Runs a case; false where its numbers are none.
@@ -84,43 +88,41 @@ fn run_table(rt: &impl Print, limit: u64, c: u64, xs: &[u64], rows: &[u64]) -> i
     Ok(true)
 }
 
-// Runs the case of a line, whose columns begin at a place; false where it is none.
-fn run_columns(rt: &impl Print, line: &[u8], at: usize) -> io::Result<bool> {
-    let mut head = [0u64; 4];
-    let mut xs = [0u64; 512];
-    let mut rows = [0u64; 512];
-    let h = read_column(line, at, &mut head);
-    let x = read_column(line, h.next, &mut xs);
-    let r = read_column(line, x.next, &mut rows);
-    let count = x.count;
-    let words = r.count;
-    if !h.ok || h.last || h.count != 2 || !x.ok || x.last || !r.ok || !r.last {
-        return Ok(false);
+// The numbers of a line's three columns, if it is a case: how many bytes of a table, and words of rows, there are.
+fn columns(
+    line: &[u8],
+    head: &mut [u64],
+    xs: &mut [u64],
+    rows: &mut [u64],
+) -> Option<(usize, usize)>
+    ensures { IfSome result (λ n. IsPrefixLen n.0 xs.new × IsPrefixLen n.1 rows.new) }
+{
+    let end = find(line, 0, b' ');
+    if &line[..end] != b"mark".as_slice() {
+        return None;
     }
-    run_table(rt, head[0], head[1], &xs[..count], &rows[..words])
+    let h = read_column(line, end, head)?;
+    if h.count != 2 {
+        return None;
+    }
+    let x = read_column(line, h.next?, xs)?;
+    let words = read_last(line, x.next?, rows)?;
+    Some((x.count, words))
 }
 
 fn run(rt: &impl Print, line: &[u8]) -> io::Result<bool> {
-    let end = find(line, 0, b' ');
-    if !is(&line[0..end], b"mark") {
+    let mut head = [0u64; 4];
+    let mut xs = [0u64; 512];
+    let mut rows = [0u64; 512];
+    let Some((count, words)) = columns(line, &mut head, &mut xs, &mut rows) else {
         return Ok(false);
-    }
-    run_columns(rt, line, end)
-}
-
-fn each(rt: &impl Print, text: &[u8]) -> io::Result<()> {
-    let mut at = 0;
-    while at < text.len() {
-        let end = find(text, at, b'\n');
-        readable(rt, run(rt, &text[at..end])?)?;
-        at = end + 1;
-    }
-    Ok(())
+    };
+    run_table(rt, head[0], head[1], &xs[..count], &rows[..words])
 }
 
 // It reads no more than 65,536 bytes.
 fn main(rt: HostRuntime) -> io::Result<()> {
     let mut text = [0u8; 65536];
     let n = streams::read_full(&mut rt.reader(), &mut text)?;
-    each(&rt, &text[..n])
+    each(&rt, &text[..n], |line| run(&rt, line))
 }

@@ -2,43 +2,44 @@
 // or the refusal of the whole call. Both buffers are full of marks before a call, so that words left as they came are seen.
 #![tactic(auto)]
 
-use lookahead::{Needed, needed_k};
-use replay::{decimal, find, is, read_column, readable, refused, told};
-use replay_tables::{MARK, narrowed, wiped};
+use lookahead::{Needed, Refusal, needed_k};
+use replay::{decimal, each, refused, told};
+use replay_tables::{MARK, narrowed, read_case, wiped};
 use std::io;
 
 // What is told of one nonterminal, behind a blank if it is not the first.
-fn told_one(rt: &impl Print, i: usize, refusal: u64, k: u64) -> io::Result<()> {
+fn told_one(rt: &impl Print, i: usize, answer: Result<u64, Refusal>) -> io::Result<()> {
     if 0 < i {
         rt.write_all(b" ")?;
     }
-    if refusal != 0 {
-        rt.write_all(b"r")?;
-        decimal(rt, refusal)?;
-        return Ok(());
+    match answer {
+        Ok(k) => decimal(rt, k),
+        Err(e) => {
+            rt.write_all(b"r")?;
+            decimal(rt, u64::from(e))
+        }
     }
-    decimal(rt, k)
 }
 
-fn told_each(rt: &impl Print, n: u64, refusals: &[u64; 128], ks: &[u64; 128]) -> io::Result<()> {
-    for i in 0..128 {
+fn told_each(rt: &impl Print, n: u64, answers: &[Result<u64, Refusal>; 128]) -> io::Result<()> {
+    for (i, answer) in answers.iter().enumerate() {
         if n <= i as u64 {
-            return Ok(());
+            break;
         }
-        told_one(rt, i, refusals[i], ks[i])?;
+        told_one(rt, i, *answer)?;
     }
     Ok(())
 }
 
-fn told_answer(rt: &impl Print, a: Needed) -> io::Result<()> {
-    if a.refusal != 0 {
-        refused(rt, a.refusal)?;
-        return Ok(());
+fn told_answer(rt: &impl Print, a: Result<Needed, Refusal>) -> io::Result<()> {
+    match a {
+        Ok(a) => {
+            let answers = a.answers;
+            told_each(rt, a.n, &answers)?;
+            told(rt, b"")
+        }
+        Err(e) => refused(rt, u64::from(e)),
     }
-    let refusals = a.refusals;
-    let ks = a.ks;
-    told_each(rt, a.n, &refusals, &ks)?;
-    told(rt, b"")
 }
 
 // A refusal of the whole call leaves every word as it came; else there are zeros before the marks.
@@ -47,7 +48,7 @@ fn answer(rt: &impl Print, limit: u64, c: u64, table: &[u8]) -> io::Result<()> {
     let mut scratch = [MARK; 16384];
     let a = needed_k(limit, c, table, &mut result, &mut scratch);
     told_answer(rt, a)?;
-    let some = a.refusal == 0;
+    let some = a.is_ok();
     if !wiped(&result, some) || !wiped(&scratch, some) {
         told(rt, b"lent words changed")?;
     }
@@ -67,34 +68,17 @@ fn run_table(rt: &impl Print, limit: u64, c: u64, xs: &[u64]) -> io::Result<bool
 
 // Runs the case of a line; false where it is none.
 fn run(rt: &impl Print, line: &[u8]) -> io::Result<bool> {
-    let end = find(line, 0, b' ');
-    if !is(&line[0..end], b"needed") {
-        return Ok(false);
-    }
     let mut head = [0u64; 4];
     let mut xs = [0u64; 512];
-    let h = read_column(line, end, &mut head);
-    let x = read_column(line, h.next, &mut xs);
-    let count = x.count;
-    if !h.ok || h.last || h.count != 2 || !x.ok || !x.last {
+    let Some(count) = read_case(line, b"needed", 2, &mut head, &mut xs) else {
         return Ok(false);
-    }
+    };
     run_table(rt, head[0], head[1], &xs[..count])
-}
-
-fn each(rt: &impl Print, text: &[u8]) -> io::Result<()> {
-    let mut at = 0;
-    while at < text.len() {
-        let end = find(text, at, b'\n');
-        readable(rt, run(rt, &text[at..end])?)?;
-        at = end + 1;
-    }
-    Ok(())
 }
 
 // It reads no more than 65,536 bytes.
 fn main(rt: HostRuntime) -> io::Result<()> {
     let mut text = [0u8; 65536];
     let n = streams::read_full(&mut rt.reader(), &mut text)?;
-    each(&rt, &text[..n])
+    each(&rt, &text[..n], |line| run(&rt, line))
 }

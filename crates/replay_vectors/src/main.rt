@@ -1,7 +1,7 @@
 // Runs stored cases of single operations through the public functions, a case a line, and prints each answer on a line.
 #![tactic(auto)]
 
-use replay::{find, readable};
+use replay::each;
 use std::io;
 
 mod sets;
@@ -15,19 +15,9 @@ fn run(rt: &impl Print, line: &[u8]) -> io::Result<bool> {
     sets::run(rt, line)
 }
 
-fn each(rt: &impl Print, text: &[u8]) -> io::Result<()> {
-    let mut at = 0;
-    while at < text.len() {
-        let end = find(text, at, b'\n');
-        readable(rt, run(rt, &text[at..end])?)?;
-        at = end + 1;
-    }
-    Ok(())
-}
-
 // It reads no more than 65,536 bytes.
 fn main(rt: HostRuntime) -> io::Result<()> {
     let mut text = [0u8; 65536];
     let n = streams::read_full(&mut rt.reader(), &mut text)?;
-    each(&rt, &text[..n])
+    each(&rt, &text[..n], |line| run(&rt, line))
 }

@@ -1,176 +1,98 @@
 // Stored cases of packed strings: each runs through a public function, and its answer is printed on a line.
-ghost use Rattle.io.specs.Counts.{IsPrefixLen};
-
-use k_tuple::{CompleteAnswer, OrderAnswer, StringAnswer, Terminals, WidthAnswer};
-use replay::{find, is, refused, told, truth};
+use k_tuple::{Terminals, Unpacked};
+use refusals::Refusal;
+use replay::{find, read_last, refused, told, truth};
+use replay_tables::narrowed;
+use std::cmp::Ordering;
 use std::io;
 
-fn told_string(rt: &impl Print, a: StringAnswer) -> io::Result<()> {
+// Each prints an answer on a line, or its refusal.
+fn told_string(rt: &impl Print, a: Result<Terminals, Refusal>) -> io::Result<()> {
     match a {
-        StringAnswer::Is(t) => {
+        Ok(t) => {
             replay::words(rt, &[t.lo, t.hi])?;
             told(rt, b"")
         }
-        StringAnswer::Refused(n) => refused(rt, n),
+        Err(e) => refused(rt, u64::from(e)),
     }
 }
 
-fn told_width(rt: &impl Print, a: WidthAnswer) -> io::Result<()> {
+fn told_width(rt: &impl Print, a: Result<u64, Refusal>) -> io::Result<()> {
     match a {
-        WidthAnswer::Bits(w) => {
+        Ok(w) => {
             replay::decimal(rt, w)?;
             told(rt, b"")
         }
-        WidthAnswer::Refused(n) => refused(rt, n),
+        Err(e) => refused(rt, u64::from(e)),
     }
 }
 
-fn told_complete(rt: &impl Print, a: CompleteAnswer) -> io::Result<()> {
+fn told_complete(rt: &impl Print, a: Result<bool, Refusal>) -> io::Result<()> {
     match a {
-        CompleteAnswer::Yes => truth(rt, true),
-        CompleteAnswer::No => truth(rt, false),
-        CompleteAnswer::Refused(n) => refused(rt, n),
+        Ok(b) => truth(rt, b),
+        Err(e) => refused(rt, u64::from(e)),
     }
 }
 
-fn told_order(rt: &impl Print, a: OrderAnswer) -> io::Result<()> {
+fn told_order(rt: &impl Print, a: Result<Ordering, Refusal>) -> io::Result<()> {
     match a {
-        OrderAnswer::Less => told(rt, b"-1"),
-        OrderAnswer::Equal => told(rt, b"0"),
-        OrderAnswer::Greater => told(rt, b"1"),
-        OrderAnswer::Refused(n) => refused(rt, n),
+        Ok(Ordering::Less) => told(rt, b"-1"),
+        Ok(Ordering::Equal) => told(rt, b"0"),
+        Ok(Ordering::Greater) => told(rt, b"1"),
+        Err(e) => refused(rt, u64::from(e)),
     }
 }
 
-fn told_unpacked(rt: &impl Print, t: Terminals) -> io::Result<()> {
-    let u = t.unpack();
-    if u.refused != 0 {
-        refused(rt, u.refused)?;
-        return Ok(());
-    }
-    replay::decimal(rt, u.length)?;
-    let slots = u.slots;
-    replay::slots(rt, &slots)?;
-    told(rt, b"")
-}
-
-// Copies numbers into terminals, up to the first that is none, and answers how many.
-fn narrowed(xs: &[u64], into: &mut [u16]) -> usize
-    ensures { IsPrefixLen result into.new }
-{
-    let mut i = 0;
-    while i < into.len() {
-        if xs.len() <= i {
-            break;
+fn told_unpacked(rt: &impl Print, a: Result<Unpacked, Refusal>) -> io::Result<()> {
+    match a {
+        Ok(u) => {
+            replay::decimal(rt, u.length)?;
+            replay::slots(rt, &u.slots)?;
+            told(rt, b"")
         }
-        let x = xs[i];
-        if 65535 < x {
-            break;
-        }
-        into[i] = x as u16;
-        i += 1;
+        Err(e) => refused(rt, u64::from(e)),
     }
-    i
 }
 
 // make: k, the greatest terminal, the list.
-fn of_list(rt: &impl Print, n: &[u64]) -> io::Result<bool> {
-    if n.len() < 2 {
-        return Ok(false);
-    }
+fn of_list(rt: &impl Print, k: u64, m: u64, list: &[u64]) -> io::Result<bool> {
     let mut ts = [0u16; 64];
-    let count = narrowed(&n[2..], &mut ts);
-    if count != n.len() - 2 {
+    let count = narrowed(list, &mut ts);
+    if count != list.len() {
         return Ok(false);
     }
-    told_string(rt, Terminals::make(&ts[..count], n[0], n[1]))?;
+    told_string(rt, Terminals::make(&ts[..count], k, m))?;
     Ok(true)
 }
 
-fn string(lo: u64, hi: u64) -> Terminals {
-    Terminals { lo, hi }
-}
-
-// The cases by how many numbers they have; false where there is no such case.
-fn of_one(rt: &impl Print, word: &[u8], m: u64) -> io::Result<bool> {
-    if is(word, b"width") {
-        told_width(rt, k_tuple::width(m))?;
-        return Ok(true);
-    }
-    if is(word, b"eps") {
-        told_string(rt, Terminals::eps(m))?;
-        return Ok(true);
-    }
-    if is(word, b"end") {
-        told_string(rt, Terminals::end(m))?;
-        return Ok(true);
-    }
-    Ok(false)
-}
-
-fn of_two(rt: &impl Print, word: &[u8], t: Terminals) -> io::Result<bool> {
-    if is(word, b"unpack") {
-        told_unpacked(rt, t)?;
-        return Ok(true);
-    }
-    Ok(false)
-}
-
-fn of_three(rt: &impl Print, word: &[u8], a: u64, b: u64, c: u64) -> io::Result<bool> {
-    if is(word, b"push") {
-        told_string(rt, string(a, b).push(c))?;
-        return Ok(true);
-    }
-    if is(word, b"complete") {
-        told_complete(rt, string(b, c).is_k_complete(a))?;
-        return Ok(true);
-    }
-    if is(word, b"cut") {
-        told_string(rt, string(b, c).cut(a))?;
-        return Ok(true);
-    }
-    Ok(false)
-}
-
-fn of_four(rt: &impl Print, word: &[u8], t: Terminals, u: Terminals) -> io::Result<bool> {
-    if is(word, b"order") {
-        told_order(rt, t.cmp(u))?;
-        return Ok(true);
-    }
-    Ok(false)
-}
-
-fn of_five(rt: &impl Print, word: &[u8], k: u64, t: Terminals, u: Terminals) -> io::Result<bool> {
-    if is(word, b"join") {
-        told_string(rt, t.k_concat(u, k))?;
-        return Ok(true);
-    }
-    Ok(false)
+fn string(lo: &u64, hi: &u64) -> Terminals {
+    Terminals { lo: *lo, hi: *hi }
 }
 
 // Runs the case of a word and its numbers; false where there is no such case.
 fn answered(rt: &impl Print, word: &[u8], n: &[u64]) -> io::Result<bool> {
-    if is(word, b"make") {
-        return of_list(rt, n);
+    match (word, n) {
+        (b"make", [k, m, list @ ..]) => return of_list(rt, *k, *m, list),
+        (b"width", [m]) => told_width(rt, k_tuple::width(*m))?,
+        (b"eps", [m]) => told_string(rt, Terminals::eps(*m))?,
+        (b"end", [m]) => told_string(rt, Terminals::end(*m))?,
+        (b"unpack", [lo, hi]) => told_unpacked(rt, string(lo, hi).unpack())?,
+        (b"push", [lo, hi, x]) => told_string(rt, string(lo, hi).push(*x))?,
+        (b"complete", [k, lo, hi]) => told_complete(rt, string(lo, hi).is_k_complete(*k))?,
+        (b"cut", [k, lo, hi]) => told_string(rt, string(lo, hi).cut(*k))?,
+        (b"order", [a, b, c, d]) => told_order(rt, string(a, b).cmp(string(c, d)))?,
+        (b"join", [k, a, b, c, d]) => told_string(rt, string(a, b).k_concat(string(c, d), *k))?,
+        _ => return Ok(false),
     }
-    match n.len() {
-        1 => of_one(rt, word, n[0]),
-        2 => of_two(rt, word, string(n[0], n[1])),
-        3 => of_three(rt, word, n[0], n[1], n[2]),
-        4 => of_four(rt, word, string(n[0], n[1]), string(n[2], n[3])),
-        5 => of_five(rt, word, n[0], string(n[1], n[2]), string(n[3], n[4])),
-        _ => Ok(false),
-    }
+    Ok(true)
 }
 
 // Runs the case of a line; false where it is none of these.
 pub fn run(rt: &impl Print, line: &[u8]) -> io::Result<bool> {
     let end = find(line, 0, b' ');
     let mut n = [0u64; 64];
-    let column = replay::read_column(line, end, &mut n);
-    let count = column.count;
-    if column.ok && column.last {
-        return answered(rt, &line[0..end], &n[..count]);
-    }
-    Ok(false)
+    let Some(count) = read_last(line, end, &mut n) else {
+        return Ok(false);
+    };
+    answered(rt, &line[..end], &n[..count])
 }

@@ -1,8 +1,11 @@
-// Reading a stream into lent bytes.
+// Reading a stream into lent bytes, and text gathered for another.
 #![tactic(auto)]
 
 ghost use Rattle.std.specs.Io.{ReadsAtMost};
 
+mod out;
+
+pub use out::Out;
 use std::io;
 use std::io::Read;
 

@@ -4,7 +4,7 @@ use native.Mathlib.Omega.{arith}
 use native.Mathlib.Numerals.{add-one}
 use native.Mathlib.Decide.{dec_lt}
 use mathlib.Core.Path.{◌≡◌, refl, sym, ap, ap₂, ◌∙◌, subst}
-use mathlib.Core.Bool.{Bool, true, false}
+use mathlib.Core.Bool.{Bool, true, false, true≢false, false≢true}
 use mathlib.Core.Logic.{◌↔◌, ◌⊎◌, inl, inr, ⊎_elim}
 use mathlib.Core.List.Memᴰ
 use mathlib.Core.List.Memᴰ.{append_cases}
@@ -12,13 +12,18 @@ use mathlib.Core.List.Memᴰ.{eq_of_singleton as only}
 use mathlib.Core.List.Memᴰ.{head as here}
 use mathlib.Core.List.Memᴰ.{not-nil}
 use mathlib.Core.List.{List, [], ◌∷◌, ◌++◌, append_assoc, append-nil}
-use lib.Dec.{ltb}
+use Rattle.std.specs.Prelude.{Option, Some, None, not}
+use Rattle.std.specs.Option.{option_eq, option_partial_cmp}
+use Rattle.std.specs.Ordering.{partial_lt}
+use Rattle.std.specs.declared.cmp.Ordering.{Ordering}
+use borrow.Author.Tests.{eqb-true, eq-eqb, lt-ltb, le-ltb, ltb-true, ltb-false}
+use lib.Dec.{eqb, ltb}
 use lib.ListN.{length, get_or, take, drop, set, length-set, length-append, length-drop, take-append-drop, drop_of_length-le, get_or-append}
-use lib.Seq.{length-take-le, take_all, take-suc, drop-cons, take-suc-set, take_at, drop_at}
+use lib.Seq.{length-take-le, take_all, drop-cons, take-suc-set, take_at, drop_at}
 use Rattle.cfg.specs.Grammar.{Word}
 use Rattle.k_tuples.specs.Sets.{◌∈◌}
 use Rattle.decision_theory.proofs.Lists.{at_place, place_of}
-use Rattle.trees.specs.Listed.{Listed, word_at, code_at}
+use Rattle.trees.specs.Listed.{Listed, word_at, code_at, code_of}
 use Rattle.trees.specs.Order.{not_after, Inside, left_next, merged, Sorted, Arranged, Numbers, InOrder}
 use Rattle.trees.proofs.Reading.{word-short}
 use Rattle.trees.proofs.Ordering.{codes_same, codes-differ, merge-left, merge-right, merged-members, merged-sorted}
@@ -34,6 +39,35 @@ pub record Comparing (v w : Word) (e : ℕ) : Type 0 where
   pub below : e ≤ 10
   pub rest : not_after (drop e v) (drop e w) ≡ not_after v w
 
+-- Letters that are told the same have the same code,
+pub codes-equal : (a b : Option ℕ) → not (option_eq eqb a b) ≡ false → code_of a ≡ code_of b
+codes-equal None None e = refl
+codes-equal None (Some t) e = absurd (true≢false e)
+codes-equal (Some s) None e = absurd (true≢false e)
+codes-equal (Some s) (Some t) e = by (eqb s t) refl
+  where
+    by : (x : Bool) → eqb s t ≡ x → suc s ≡ suc t
+    by true q = ap suc (eqb-true s t q)
+    by false q = absurd (true≢false (sym (ap not q) ∙ e))
+
+-- and others have not.
+pub codes-apart : (a b : Option ℕ) → not (option_eq eqb a b) ≡ true → code_of a ≡ code_of b → ⊥
+codes-apart None None e q = false≢true e
+codes-apart None (Some t) e q = omega arith
+codes-apart (Some s) None e q = omega arith
+codes-apart (Some s) (Some t) e q = let h : s ≡ t = omega arith in false≢true (sym (ap not (eq-eqb s t h)) ∙ e)
+
+-- One comes before another where its code does.
+pub codes-lower : (C : ℕ → ℕ → Option Ordering) → ((s t : ℕ) → partial_lt C s t ≡ ltb s t) → (a b : Option ℕ) → partial_lt (option_partial_cmp C) a b ≡ ltb (code_of a) (code_of b)
+codes-lower C is None None = refl
+codes-lower C is None (Some t) = sym (lt-ltb 0 (suc t) (omega arith))
+codes-lower C is (Some s) None = sym (le-ltb (suc s) 0 (omega arith))
+codes-lower C is (Some s) (Some t) = is s t ∙ by (ltb s t) refl
+  where
+    by : (x : Bool) → ltb s t ≡ x → ltb s t ≡ ltb (suc s) (suc t)
+    by true q = q ∙ sym (lt-ltb (suc s) (suc t) (let h = ltb-true s t q in omega arith))
+    by false q = q ∙ sym (le-ltb (suc s) (suc t) (let h = ltb-false s t q in omega arith))
+
 module _ (v w : Word) where
   pub compare-start : Comparing v w 0
   compare-start = record { below = omega arith; rest = refl }
@@ -48,33 +82,6 @@ module _ (v w : Word) where
 pub compare-end : (ws : List ℕ) (n i j e : ℕ) → Listed ws n → i < n → Comparing (word_at ws i) (word_at ws j) e → 10 ≤ e → true ≡ not_after (word_at ws i) (word_at ws j)
 unfolding not_after
 compare-end ws n i j e listed l c h = let s = word-short ws n i listed l in ap (λ (x : Word). not_after x (drop e (word_at ws j))) (sym (past (word_at ws i) e (omega arith))) ∙ c.rest
-
--- ---- a copy
-
-pub record Copying (from to₀ to : List ℕ) (i : ℕ) : Type 0 where
-  pub same : length to ≡ length to₀
-  pub room : length from ≤ length to
-  pub below : i ≤ length from
-  pub front : take i to ≡ take i from
-
-module _ (from to₀ : List ℕ) where
-  pub copy_start : length from ≤ length to₀ → Copying from to₀ to₀ 0
-  copy_start e = record { same = refl; room = e; below = omega arith; front = refl }
-
-  pub copy_more : (to : List ℕ) (i : ℕ) → Copying from to₀ to i → i < length from → Copying from to₀ (set to i (get_or from i 0)) (i + 1)
-  copy_more to i c h =
-      let e = c.room in record {
-        same = length-set to i (get_or from i 0) ∙ c.same;
-        room = rw length-set c.room;
-        below = omega arith;
-        front = rw add-one (take-suc-set to i (get_or from i 0) (omega arith) ∙ ap (λ (l : List ℕ). l ++ get_or from i 0 ∷ []) c.front ∙ sym (take-suc from i 0 h));
-      }
-
-  pub copy-end : (to : List ℕ) (i : ℕ) → Copying from to₀ to i → length from ≤ i → take (length from) to ≡ from
-  copy-end to i c h =
-      let b = c.below in
-      let e : i ≡ length from = omega arith in
-      ap (λ (k : ℕ). take k to) (sym e) ∙ c.front ∙ take_all i from h
 
 -- ---- numbers from 0 on
 
@@ -129,18 +136,19 @@ module _ (ws left right : List ℕ) (i j : ℕ) where
 
 -- ---- merging
 
--- i of the left and j of the right were taken.
-pub record Merging (ws left right both : List ℕ) (i j : ℕ) : Type 0 where
+-- i of the left and j of the right were taken: so many as there are places filled.
+pub record Merging (ws left right both : List ℕ) (i j at : ℕ) : Type 0 where
   pub size : length both ≡ length left + length right
   pub some : i ≤ length left
   pub others : j ≤ length right
-  pub come : take (i + j) both ++ merged ws (drop i left) (drop j right) ≡ merged ws left right
+  pub place : at ≡ i + j
+  pub come : take at both ++ merged ws (drop i left) (drop j right) ≡ merged ws left right
 
 module _ (ws left right : List ℕ) where
-  pub merge-start : (both : List ℕ) → length both ≡ length left + length right → Merging ws left right both 0 0
-  merge-start both e = record { size = e; some = omega arith; others = omega arith; come = refl }
+  pub merge-start : (both : List ℕ) → length both ≡ length left + length right → Merging ws left right both 0 0 0
+  merge-start both e = record { size = e; some = omega arith; others = omega arith; place = refl; come = refl }
 
-  module _ (both : List ℕ) (i j : ℕ) (m : Merging ws left right both i j) (h : i + j < length both) (b : Bool) (next : b ≡ left_next ws (drop i left) (drop j right)) where
+  module _ (both : List ℕ) (i j at : ℕ) (m : Merging ws left right both i j at) (h : at < length both) (b : Bool) (next : b ≡ left_next ws (drop i left) (drop j right)) where
     -- Where the left is next there is one, and where the right is.
     pub left-some : b ≡ true → i < length left
     unfolding left_next
@@ -157,56 +165,59 @@ module _ (ws left right : List ℕ) where
         by : Dec (j < length right) → j < length right
         by (yes l) = l
         by (no l) =
-            let i-in : i < length left = let a = m.size in let c = m.some in omega arith in
+            let i-in : i < length left = let a = m.size in let c = m.some in let p = m.place in omega arith in
             let e : true ≡ false = ap₂ (left_next ws) (sym (drop-cons left i 0 i-in)) (sym (past right j (omega arith))) ∙ sym next ∙ t in
             let z : ◌≡◌ {A = ℕ} 0 1 = cc in absurd (omega arith)
 
-    pub merge-one : b ≡ true → Merging ws left right (set both (i + j) (get_or left i 0)) (i + 1) j
+    pub merge-one : b ≡ true → Merging ws left right (set both at (get_or left i 0)) (i + 1) j (at + 1)
     merge-one t =
         let l = left-some t in
         let x = get_or left i 0 in
-        let place : i + 1 + j ≡ suc (i + j) = omega arith in
+        let place = add-one at in
         let split = drop-cons left i 0 l in
         record {
-          size = length-set both (i + j) x ∙ m.size;
+          size = length-set both at x ∙ m.size;
           some = omega arith;
           others = m.others;
+          place = let p = m.place in omega arith;
           come =
-              ap (λ (k : ℕ). take k (set both (i + j) x) ++ merged ws (drop (i + 1) left) (drop j right)) place
-              ∙ ap (λ (L : List ℕ). L ++ merged ws (drop (i + 1) left) (drop j right)) (take-suc-set both (i + j) x h)
-              ∙ append_assoc (take (i + j) both) (x ∷ []) (merged ws (drop (i + 1) left) (drop j right))
-              ∙ ap (λ (L : List ℕ). take (i + j) both ++ L)
+              ap (λ (k : ℕ). take k (set both at x) ++ merged ws (drop (i + 1) left) (drop j right)) place
+              ∙ ap (λ (L : List ℕ). L ++ merged ws (drop (i + 1) left) (drop j right)) (take-suc-set both at x h)
+              ∙ append_assoc (take at both) (x ∷ []) (merged ws (drop (i + 1) left) (drop j right))
+              ∙ ap (λ (L : List ℕ). take at both ++ L)
               (rw add-one (sym (ap (λ (L : List ℕ). merged ws L (drop j right)) split ∙ merge-left ws x (drop (suc i) left) (drop j right) (ap (λ (L : List ℕ). left_next ws L (drop j right)) (sym split) ∙ sym next ∙ t))))
               ∙ m.come;
         }
 
-    pub merge-other : b ≡ false → Merging ws left right (set both (i + j) (get_or right j 0)) i (j + 1)
+    pub merge-other : b ≡ false → Merging ws left right (set both at (get_or right j 0)) i (j + 1) (at + 1)
     merge-other t =
         let l = right-some t in
         let x = get_or right j 0 in
-        let place : i + (j + 1) ≡ suc (i + j) = omega arith in
+        let place = add-one at in
         let split = drop-cons right j 0 l in
         record {
-          size = length-set both (i + j) x ∙ m.size;
+          size = length-set both at x ∙ m.size;
           some = m.some;
           others = omega arith;
+          place = let p = m.place in omega arith;
           come =
-              ap (λ (k : ℕ). take k (set both (i + j) x) ++ merged ws (drop i left) (drop (j + 1) right)) place
-              ∙ ap (λ (L : List ℕ). L ++ merged ws (drop i left) (drop (j + 1) right)) (take-suc-set both (i + j) x h)
-              ∙ append_assoc (take (i + j) both) (x ∷ []) (merged ws (drop i left) (drop (j + 1) right))
-              ∙ ap (λ (L : List ℕ). take (i + j) both ++ L)
+              ap (λ (k : ℕ). take k (set both at x) ++ merged ws (drop i left) (drop (j + 1) right)) place
+              ∙ ap (λ (L : List ℕ). L ++ merged ws (drop i left) (drop (j + 1) right)) (take-suc-set both at x h)
+              ∙ append_assoc (take at both) (x ∷ []) (merged ws (drop i left) (drop (j + 1) right))
+              ∙ ap (λ (L : List ℕ). take at both ++ L)
               (rw add-one (sym (ap (merged ws (drop i left)) split ∙ merge-right ws (drop i left) x (drop (suc j) right) (ap (left_next ws (drop i left)) (sym split) ∙ sym next ∙ t))))
               ∙ m.come;
         }
 
-  pub merge-end : (both : List ℕ) (i j : ℕ) → Merging ws left right both i j → length both ≤ i + j → both ≡ merged ws left right
+  pub merge-end : (both : List ℕ) (i j at : ℕ) → Merging ws left right both i j at → length both ≤ at → both ≡ merged ws left right
   unfolding merged
-  merge-end both i j m h =
+  merge-end both i j at m h =
       let a = m.size in
       let b = m.some in
       let c = m.others in
+      let p = m.place in
       sym (append-nil both)
-      ∙ ap₂ ◌++◌ (sym (take_all (i + j) both h)) (ap₂ (merged ws) (sym (past left i (omega arith))) (sym (past right j (omega arith))))
+      ∙ ap₂ ◌++◌ (sym (take_all at both h)) (ap₂ (merged ws) (sym (past left i (omega arith))) (sym (past right j (omega arith))))
       ∙ m.come
 
 -- ---- parts of a list
@@ -246,15 +257,19 @@ module _ (l : List ℕ) (m : ℕ) where
 
 -- ---- a copy of the list as the two parts
 
-module _ (order spare : List ℕ) (copied : take (length order) spare ≡ order) where
-  pub copied-inside : (n : ℕ) → Inside n order → Inside n (take (length order) spare)
-  copied-inside n h = rw copied h
+module _ (order copy rest : List ℕ) (same : copy ≡ order) where
+  -- The copy stands before the rest.
+  pub copied_is : take (length order) (copy ++ rest) ≡ order
+  copied_is = rw same (take_at order rest (length order) refl)
 
-  pub copied-size : length order ≡ length (take (length order) spare)
-  copied-size = sym (ap length copied)
+  pub copied-inside : (n : ℕ) → Inside n order → Inside n (take (length order) (copy ++ rest))
+  copied-inside n h = rw copied_is h
 
-  pub copied-merged : (ws r : List ℕ) (m : ℕ) → r ≡ merged ws (take m (take (length order) spare)) (drop m (take (length order) spare)) → r ≡ merged ws (take m order) (drop m order)
-  copied-merged ws r m e = e ∙ ap (λ (l : List ℕ). merged ws (take m l) (drop m l)) copied
+  pub copied-size : length order ≡ length (take (length order) (copy ++ rest))
+  copied-size = sym (ap length copied_is)
+
+  pub copied-merged : (ws r : List ℕ) (m : ℕ) → r ≡ merged ws (take m (take (length order) (copy ++ rest))) (drop m (take (length order) (copy ++ rest))) → r ≡ merged ws (take m order) (drop m order)
+  copied-merged ws r m e = e ∙ ap (λ (l : List ℕ). merged ws (take m l) (drop m l)) copied_is
 
 -- ---- sorting
 

@@ -11,8 +11,9 @@ use Rattle.cfg.specs.Grammar.{Word}
 use Rattle.decision_theory.specs.Automaton.{Entry, longer, prefixes}
 use Rattle.decision_theory.proofs.Lists.{map_at}
 use Rattle.decision_theory.proofs.Prefixes.{queue-end, queue-inside, queue-turn}
-use Rattle.trees.specs.declared.list.Size.{Size}
-use Rattle.trees.specs.declared.list.Size.TheVariants.{Full, Holds}
+use Rattle.std.specs.Prelude.{Result, Ok, Err}
+use Rattle.refusals.specs.declared.Refusal.{Refusal}
+use Rattle.refusals.specs.declared.Refusal.TheVariants.{TooManyStates}
 use Rattle.trees.specs.Listed.{Listed, word_at, production_at, entry_at, entries}
 use Rattle.trees.specs.Order.{InOrder}
 use Rattle.trees.specs.Answer.{Strings}
@@ -101,7 +102,7 @@ module _ (ws : List ℕ) (n : ℕ) (order entry kids₀ places₀ : List ℕ) (h
     prefixes-length : length (prefixes_in ws (take m queue)) ≡ m
     prefixes-length = length-map (take m queue) (prefix_of ws) ∙ length-take-le m queue (let a = g.queue-length in let b = h.queue-room in let z = length-set entry 0 0 in let c = g.few in omega arith)
 
-    pub build-end : m ≤ s → Built ws n entry kids₀ queue kids (Holds m)
+    pub build-end : m ≤ s → Built ws n entry kids₀ queue kids (Ok m)
     build-end l =
         let same : s ≡ m = let b = g.below in omega arith in
         let P = prefixes_in ws (take m queue) in
@@ -149,10 +150,10 @@ module _ (ws : List ℕ) (n : ℕ) (order entry kids₀ places₀ : List ℕ) (h
       inside : s < length (prefixes_in ws (take m queue))
       inside = let e = prefixes-length in omega arith
 
-      pub build-over : (after : List ℕ) (r : Size) → Grows ws n v m queue after r → r ≡ Full → Built ws n entry kids₀ after kids r
-      build-over after r (grows end q b c d e f t) z = let x : Holds end ≡ Full = sym q ∙ z in let y : ◌≡◌ {A = ℕ} 0 1 = cc in absurd (omega arith)
-      build-over after r (over q many c) z =
-          too_many z (c ∙ g.queue-length ∙ length-set entry 0 0) g.kids-length (λ depth short.
+      pub build-over : (after : List ℕ) (r : Result ℕ Refusal) → Grows ws n v m queue after r → (e : Refusal) → r ≡ Err e → Built ws n entry kids₀ after kids (Err e)
+      build-over after r (grows end q b c d e f t) e' z = let x : Ok end ≡ Err e' = sym q ∙ z in let y : ◌≡◌ {A = ℕ} 0 1 = cc in absurd (omega arith)
+      build-over after r (over q many c) e' z =
+          too_many (sym z ∙ q) (c ∙ g.queue-length ∙ length-set entry 0 0) g.kids-length (λ depth short.
           let (rest, e) = g.first depth short in
           let P = prefixes_in ws (take m queue) in
           let f = next-first ws n h.ordered.listed P s inside g.whole depth short rest e in
@@ -163,10 +164,10 @@ module _ (ws : List ℕ) (n : ℕ) (order entry kids₀ places₀ : List ℕ) (h
           let d = prefixes-length in
           omega arith)
 
-      pub build-turn : (after places' : List ℕ) (r : Size) → Spread ws n order v m queue after places places' r → Grows ws n v m queue after r → (end : ℕ) → r ≡ Holds end → Queue ws n order (set entry 0 0) kids₀ (set places₀ 0 0) after (set kids s (end - m)) places' (s + 1) end
-      build-turn after places' r spread (over q many c) end z = let x : Full ≡ Holds end = sym q ∙ z in let y : ◌≡◌ {A = ℕ} 0 1 = cc in absurd (omega arith)
+      pub build-turn : (after places' : List ℕ) (r : Result ℕ Refusal) → Spread ws n order v m queue after places places' r → Grows ws n v m queue after r → (end : ℕ) → r ≡ Ok end → Queue ws n order (set entry 0 0) kids₀ (set places₀ 0 0) after (set kids s (end - m)) places' (s + 1) end
+      build-turn after places' r spread (over q many c) end z = let x : Err TooManyStates ≡ Ok end = sym q ∙ z in let y : ◌≡◌ {A = ℕ} 0 1 = cc in absurd (omega arith)
       build-turn after places' r spread (grows to q most same count front put new) end z =
-          let x : Holds to ≡ Holds end = sym q ∙ z in
+          let x : Ok to ≡ Ok end = sym q ∙ z in
           let e : to ≡ end = cc in
           by e
         where
@@ -217,13 +218,13 @@ module _ (ws : List ℕ) (n : ℕ) (order entry kids₀ places₀ : List ℕ) (h
                   rw f (get_or-set_same kids s (end - m) 0 k ∙ c ∙ ap (λ (w : ℕ). length (letters_at ws n (prefix_of ws w))) (sym (same-before s l)))
 
 -- The queue's length stays, and it does not shrink.
-pub grown-length : (ws : List ℕ) (n v m : ℕ) (before after : List ℕ) (r : Size) → Grows ws n v m before after r → length after ≡ length before
+pub grown-length : (ws : List ℕ) (n v m : ℕ) (before after : List ℕ) (r : Result ℕ Refusal) → Grows ws n v m before after r → length after ≡ length before
 grown-length ws n v m before after r (over q many same) = same
 grown-length ws n v m before after r (grows to q most same count front put new) = same
 
-pub grown-low : (ws : List ℕ) (n v m : ℕ) (before after : List ℕ) (r : Size) → Grows ws n v m before after r → (end : ℕ) → r ≡ Holds end → m ≤ end
-grown-low ws n v m before after r (over q many same) end z = let x : Full ≡ Holds end = sym q ∙ z in let y : ◌≡◌ {A = ℕ} 0 1 = cc in absurd (omega arith)
-grown-low ws n v m before after r (grows to q most same count front put new) end z = let x : Holds to ≡ Holds end = sym q ∙ z in let e : to ≡ end = cc in omega arith
+pub grown-low : (ws : List ℕ) (n v m : ℕ) (before after : List ℕ) (r : Result ℕ Refusal) → Grows ws n v m before after r → (end : ℕ) → r ≡ Ok end → m ≤ end
+grown-low ws n v m before after r (over q many same) end z = let x : Err TooManyStates ≡ Ok end = sym q ∙ z in let y : ◌≡◌ {A = ℕ} 0 1 = cc in absurd (omega arith)
+grown-low ws n v m before after r (grows to q most same count front put new) end z = let x : Ok to ≡ Ok end = sym q ∙ z in let e : to ≡ end = cc in omega arith
 
 -- The strings of one nonterminal, in order, can be built from.
 pub can-order : (ws : List ℕ) (n : ℕ) (order : List ℕ) → Strings ws n → InOrder ws n order → Ordered ws n order

@@ -20,8 +20,9 @@ use Rattle.k_tuples.proofs.Held.{holds-decode, holds-member}
 use Rattle.k_tuples.proofs.Words.{get_d-decode, length-decode, set_room}
 use Rattle.decision_theory.specs.Automaton.{Entry, entries_in}
 use Rattle.decision_theory.proofs.Tree.{entry}
-use Rattle.trees.specs.declared.list.Size.{Size}
-use Rattle.trees.specs.declared.list.Size.TheVariants.{Full, Holds}
+use Rattle.std.specs.Prelude.{Result, Ok, Err}
+use Rattle.refusals.specs.declared.Refusal.{Refusal}
+use Rattle.refusals.specs.declared.Refusal.TheVariants.{TooManyStates}
 use Rattle.trees.specs.Listed.{Listed, Plain, Addable, SameWidth, entries, Appended, no_room, appended}
 use Rattle.trees.specs.Collected.{entries_for, Collect, Collected, over, collected}
 
@@ -48,12 +49,12 @@ module _ (n production : ℕ) (set before : List ℕ) (h : Collect before n set 
   collect-inside i size e l = let r = set_room h.is_set in omega arith
 
   module _ (now : List ℕ) (m i : ℕ) (g : Collecting n production set before now m i) (size : ℕ) (sized : size ≡ length (decode set)) where
-    pub collect-end : size ≤ i → Collected n production set before now (Holds m)
+    pub collect-end : size ≤ i → Collected n production set before now (Ok m)
     collect-end l =
         let b = g.below in
         let c = g.count in
         let e : m ≡ n + length (decode set) = omega arith in
-        collected (ap Holds e) (let f = g.few in omega arith) (subst (λ (k : ℕ). (l : Listed before n) → ((i : ℕ) → i < length (decode set) → Plain l.width (member_at set (2 * i + 1))) → SameWidth now k l.width) e g.listed) g.same
+        collected (ap Ok e) (let f = g.few in omega arith) (subst (λ (k : ℕ). (l : Listed before n) → ((i : ℕ) → i < length (decode set) → Plain l.width (member_at set (2 * i + 1))) → SameWidth now k l.width) e g.listed) g.same
         (ap (entries now) (sym e) ∙ g.so_far ∙ ap (λ (ts : List Terminals). entries before n ++ entries_for production ts) (take_all i (decode set) (omega arith)))
 
     module _ (l : i < size) (t : Terminals) (read : t ≡ member_at set (2 * i + 1)) where
@@ -67,7 +68,7 @@ module _ (n production : ℕ) (set before : List ℕ) (h : Collect before n set 
             room = let r = h.room in let s = g.same in omega arith;
           }
 
-      module _ (after : List ℕ) (r : Size) (told : Appended m t production now after r) where
+      module _ (after : List ℕ) (r : Result ℕ Refusal) (told : Appended m t production now after r) where
         pub collect-same : length after ≡ length before
         collect-same = by told
           where
@@ -75,20 +76,20 @@ module _ (n production : ℕ) (set before : List ℕ) (h : Collect before n set 
             by (no_room q a e) = ap length e ∙ g.same
             by (appended q a b c e) = c ∙ g.same
 
-        pub collect-over : r ≡ Full → Collected n production set before after r
-        collect-over z = by told
+        pub collect-over : (e : Refusal) → r ≡ Err e → Collected n production set before after (Err e)
+        collect-over e z = by told
           where
-            by : Appended m t production now after r → Collected n production set before after r
-            by (no_room q a e) = over z (let c = g.count in omega arith) (ap length e ∙ g.same)
-            by (appended q a b c e) = let x : Holds (m + 1) ≡ Full = sym q ∙ z in let y : ◌≡◌ {A = ℕ} 0 1 = cc in absurd (omega arith)
+            by : Appended m t production now after r → Collected n production set before after (Err e)
+            by (no_room q a s) = over (sym z ∙ q) (let c = g.count in omega arith) (ap length s ∙ g.same)
+            by (appended q a b c d) = let x : Ok (m + 1) ≡ Err e = sym q ∙ z in let y : ◌≡◌ {A = ℕ} 0 1 = cc in absurd (omega arith)
 
-        pub collect-turn : (more : ℕ) → r ≡ Holds more → Collecting n production set before after more (i + 1)
+        pub collect-turn : (more : ℕ) → r ≡ Ok more → Collecting n production set before after more (i + 1)
         collect-turn more z = by told
           where
             by : Appended m t production now after r → Collecting n production set before after more (i + 1)
-            by (no_room q a e) = let x : Full ≡ Holds more = sym q ∙ z in let y : ◌≡◌ {A = ℕ} 0 1 = cc in absurd (omega arith)
+            by (no_room q a e) = let x : Err TooManyStates ≡ Ok more = sym q ∙ z in let y : ◌≡◌ {A = ℕ} 0 1 = cc in absurd (omega arith)
             by (appended q a b c e) =
-                let x : Holds (m + 1) ≡ Holds more = sym q ∙ z in
+                let x : Ok (m + 1) ≡ Ok more = sym q ∙ z in
                 let k : m + 1 ≡ more = cc in
                 let f = g.count in
                 record {

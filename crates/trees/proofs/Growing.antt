@@ -14,7 +14,8 @@ use Rattle.decision_theory.specs.Steps.{at_least}
 use Rattle.decision_theory.proofs.Tree.{entry, letters-rising}
 use Rattle.decision_theory.proofs.Steps.{least-all, least-none, least-next}
 use Rattle.decision_theory.proofs.Prefixes.{goes_on}
-use Rattle.trees.specs.declared.list.Size.TheVariants.{Full, Holds}
+use Rattle.std.specs.Prelude.{Ok, Err}
+use Rattle.refusals.specs.declared.Refusal.TheVariants.{TooManyStates}
 use Rattle.trees.specs.Listed.{Listed, word_at, production_at, entries}
 use Rattle.trees.specs.Queue.{prefix_of, prefixes_in, State, Deep, Starts, Looked, nothing, found, letters_at, longer_by, Grows, over, grows}
 use Rattle.trees.proofs.Reading.{word-short, entries-mean}
@@ -106,20 +107,20 @@ module _ (ws : List ℕ) (n v m : ℕ) where
       }
 
   module _ (f end : ℕ) (before now : List ℕ) (g : Growing ws n v m f before now end) (l q : ℕ) (looked : Looked ws (prefix_of ws v) f n l q) where
-    pub grow-end : l ≡ 0 → Grows ws n v m before now (Holds end)
+    pub grow-end : l ≡ 0 → Grows ws n v m before now (Ok end)
     grow-end z = by looked
       where
-        by : Looked ws (prefix_of ws v) f n l q → Grows ws n v m before now (Holds end)
+        by : Looked ws (prefix_of ws v) f n l q → Grows ws n v m before now (Ok end)
         by (nothing y none) =
             let e = none_left ws n (prefix_of ws v) f none in
             grows end refl g.most g.same_length (sym (let k = rw e at g.count in omega arith)) g.front
             (sym (append-nil (prefixes_in ws (take end now))) ∙ rw e at g.come) g.deep
         by (found t y i s k low) = absurd (omega arith)
 
-    pub grow-over : (l ≡ 0 → ⊥) → 2048 ≤ end → Grows ws n v m before now Full
+    pub grow-over : (l ≡ 0 → ⊥) → 2048 ≤ end → Grows ws n v m before now (Err TooManyStates)
     grow-over z h = by looked
       where
-        by : Looked ws (prefix_of ws v) f n l q → Grows ws n v m before now Full
+        by : Looked ws (prefix_of ws v) f n l q → Grows ws n v m before now (Err TooManyStates)
         by (nothing y none) = absurd (z y)
         by (found t y i s k low) =
             let e = next-is ws n (prefix_of ws v) f t q i s k low in

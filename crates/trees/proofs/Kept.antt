@@ -27,8 +27,8 @@ use Rattle.k_tuple.specs.Order.{◌≺◌}
 use Rattle.k_tuple.proofs.Order.{≺-irrefl}
 use Rattle.k_tuples.specs.States.{Each, each_none, each_more}
 use Rattle.decision_theory.proofs.Prefixes.{tree-numbered}
-use Rattle.trees.specs.declared.list.Size.{Size}
-use Rattle.trees.specs.declared.Told.{Told}
+use Rattle.std.specs.Prelude.{Result}
+use Rattle.refusals.specs.declared.Refusal.{Refusal}
 use Rattle.trees.specs.Listed.{entries}
 use Rattle.trees.specs.Queue.{Within}
 use Rattle.trees.specs.Answer.{tree_of, Apart, SizeTold, Wrote, Measured, Written}
@@ -77,11 +77,11 @@ module _ (g : Grammar) (ok : Accepted g) (A : ℕ) (d : Decided) (right : RightF
   tree_is = ap (λ (R : List Entry). tree_of R d.k) same
 
   -- What is measured is the automaton.
-  pub decided-measured : (r : Size) → Measured ws n r → SizeTold (automaton d) r
+  pub decided-measured : (r : Result ℕ Refusal) → Measured ws n r → SizeTold (automaton d) r
   decided-measured r m = rw tree_is at (m.is d.k within)
 
   -- What is written is the automaton.
-  pub decided-written : (at : ℕ) (before after : List ℕ) (r : Told) → Written ws n at before after r → Wrote (automaton d) at before after r
+  pub decided-written : (at : ℕ) (before after : List ℕ) (r : Result ℕ Refusal) → Written ws n at before after r → Wrote (automaton d) at before after r
   decided-written at before after r m = rw tree_is at (m.is d.k within)
 
   -- And that is right for the nonterminal: walking any string of a set reaches its production, and no other string reaches one.

@@ -20,9 +20,9 @@ use Rattle.trees.specs.Queue.{prefix_of, prefixes_in, State, letters_at, longer_
 use Rattle.trees.specs.Queue as queued
 use Rattle.trees.specs.Output.{accept_of, letter_of, edges_in, states_in, kids_from, States, Puts}
 use Rattle.trees.specs.Answer.{tree_of, bytes_of, Apart, Strings, over, sized, too_many, no_room, wrote, Measured, Written}
-use Rattle.trees.specs.declared.list.Size.{Size}
-use Rattle.trees.specs.declared.list.Size.TheVariants.{Full, Holds}
-use Rattle.trees.specs.declared.Told.TheVariants.{TooMany, NoRoom, Upto}
+use Rattle.std.specs.Prelude.{Result, Ok, Err}
+use Rattle.refusals.specs.declared.Refusal.{Refusal}
+use Rattle.refusals.specs.declared.Refusal.TheVariants.{TooManyStates, LentTooFew}
 use Rattle.cfg.specs.Write.{write_numbers}
 use Rattle.trees.proofs.Reading.{entries-mean}
 
@@ -196,24 +196,27 @@ tree-length R depth =
     ∙ ap length (sym (prefixes-nodes R (suc depth) ([] ∷ [])))
     ∙ length-map (prefixes R (suc depth) ([] ∷ [])) (λ (x : Word). along x R)
 
-module _ (ws : List ℕ) (n : ℕ) (strings : Strings ws n) (queue₀ kids₀ queue kids : List ℕ) (r : Size) (told : Built ws n queue₀ kids₀ queue kids r) where
-  pub over-told : r ≡ Full → (depth : ℕ) → Within depth (entries ws n) → 2048 < length (tree_of (entries ws n) depth)
-  over-told z depth short = by told
+module _ (ws : List ℕ) (n : ℕ) (strings : Strings ws n) (queue₀ kids₀ queue kids : List ℕ) (r : Result ℕ Refusal) (told : Built ws n queue₀ kids₀ queue kids r) where
+  over-told : (e : Refusal) → r ≡ Err e → (e ≡ TooManyStates) × ((depth : ℕ) → Within depth (entries ws n) → 2048 < length (tree_of (entries ws n) depth))
+  over-told e z = by told
     where
-      by : Built ws n queue₀ kids₀ queue kids r → 2048 < length (tree_of (entries ws n) depth)
-      by (queued.too_many q a b many) = let e = tree-length (entries ws n) depth in omega (arith, many depth short)
-      by (built m q a b tree) = let x : Holds m ≡ Full = sym q ∙ z in let y : ◌≡◌ {A = ℕ} 0 1 = cc in absurd (omega arith)
+      by : Built ws n queue₀ kids₀ queue kids r → (e ≡ TooManyStates) × ((depth : ℕ) → Within depth (entries ws n) → 2048 < length (tree_of (entries ws n) depth))
+      by (queued.too_many q a b many) = (let x : Err e ≡ Err TooManyStates = sym z ∙ q in cc, λ depth short. let l = tree-length (entries ws n) depth in omega (arith, many depth short))
+      by (built m q a b tree) = let x : Ok m ≡ Err e = sym q ∙ z in let y : ◌≡◌ {A = ℕ} 0 1 = cc in absurd (omega arith)
 
-  pub measured-over : r ≡ Full → Measured ws n r
-  measured-over z = record { is = λ depth short. over z (over-told z depth short) }
+  pub measured-over : (e : Refusal) → r ≡ Err e → Measured ws n (Err e)
+  measured-over e z = let (k, many) = over-told e z in record { is = λ depth short. over (ap Err k) (many depth short) }
 
-  module _ (m : ℕ) (z : r ≡ Holds m) (queue-room : 2048 ≤ length queue₀) (kids-room : 2048 ≤ length kids₀) where
+  pub written_over : (e : Refusal) → r ≡ Err e → (at : ℕ) (before : List ℕ) → Written ws n at before before (Err e)
+  written_over e z at before = let (k, many) = over-told e z in record { is = λ depth short. too_many (ap Err k) (many depth short) refl }
+
+  module _ (m : ℕ) (z : r ≡ Ok m) (queue-room : 2048 ≤ length queue₀) (kids-room : 2048 ≤ length kids₀) where
     tree-of : Tree ws n m queue kids
     tree-of = by told
       where
         by : Built ws n queue₀ kids₀ queue kids r → Tree ws n m queue kids
-        by (queued.too_many q a b many) = let x : Full ≡ Holds m = sym q ∙ z in let y : ◌≡◌ {A = ℕ} 0 1 = cc in absurd (omega arith)
-        by (built k q a b tree) = let x : Holds k ≡ Holds m = sym q ∙ z in let e : k ≡ m = cc in subst (λ (i : ℕ). Tree ws n i queue kids) e tree
+        by (queued.too_many q a b many) = let x : Err TooManyStates ≡ Ok m = sym q ∙ z in let y : ◌≡◌ {A = ℕ} 0 1 = cc in absurd (omega arith)
+        by (built k q a b tree) = let x : Ok k ≡ Ok m = sym q ∙ z in let e : k ≡ m = cc in subst (λ (i : ℕ). Tree ws n i queue kids) e tree
 
     lengths : (length queue ≡ length queue₀) × (length kids ≡ length kids₀)
     lengths = by told
@@ -239,25 +242,22 @@ module _ (ws : List ℕ) (n : ℕ) (strings : Strings ws n) (queue₀ kids₀ qu
     bytes-are : (depth : ℕ) → Within depth (entries ws n) → write_numbers (m ∷ states_in ws n queue kids 1 0 m) ≡ bytes_of (tree_of (entries ws n) depth)
     bytes-are depth short = ap write_numbers (numbers-are ws n m queue kids tree-of in-queue strings.apart depth short)
 
-    pub measured-size : (size : ℕ) → size ≡ length (write_numbers (m ∷ states_in ws n queue kids 1 0 m)) → Measured ws n (Holds size)
-    measured-size size e = record { is = λ depth short. sized (small depth short) (ap Holds (e ∙ ap length (bytes-are depth short))) }
+    pub measured-size : (size : ℕ) → size ≡ length (write_numbers (m ∷ states_in ws n queue kids 1 0 m)) → Measured ws n (Ok size)
+    measured-size size e = record { is = λ depth short. sized (small depth short) (ap Ok (e ∙ ap length (bytes-are depth short))) }
 
     module _ (size at : ℕ) (e : size ≡ length (write_numbers (m ∷ states_in ws n queue kids 1 0 m))) (before : List ℕ) (inside : at ≤ length before) where
-      pub written-not : length before - at < size → Written ws n at before before NoRoom
+      pub written-not : length before - at < size → Written ws n at before before (Err LentTooFew)
       written-not h = record { is = λ depth short. no_room (small depth short) refl (let f = ap length (bytes-are depth short) in omega arith) refl }
 
       pub write-room : size ≤ length before - at → at + length (write_numbers (m ∷ states_in ws n queue kids 1 0 m)) ≤ length before
       write-room h = omega arith
 
-      pub written_all : size ≤ length before - at → (after : List ℕ) (next : ℕ) → Puts before after at next (write_numbers (m ∷ states_in ws n queue kids 1 0 m)) → Written ws n at before after (Upto next)
+      pub written_all : size ≤ length before - at → (after : List ℕ) (next : ℕ) → Puts before after at next (write_numbers (m ∷ states_in ws n queue kids 1 0 m)) → Written ws n at before after (Ok next)
       written_all h after next p = record {
         is = λ depth short.
             let b = bytes-are depth short in
             let f = ap length b in
             let B = write_numbers (m ∷ states_in ws n queue kids 1 0 m) in
-            wrote (small depth short) (ap Upto (p.place ∙ ap (λ (i : ℕ). at + i) f)) (omega arith)
+            wrote (small depth short) (ap Ok (p.place ∙ ap (λ (i : ℕ). at + i) f)) (omega arith)
             (p.written ∙ sets-eq B before at (omega arith) ∙ ap (λ (l : List ℕ). take at before ++ l ++ drop (at + length l) before) b);
       }
-
-pub written_over : (ws : List ℕ) (n : ℕ) → Strings ws n → (queue₀ kids₀ queue kids : List ℕ) (r : Size) → Built ws n queue₀ kids₀ queue kids r → r ≡ Full → (at : ℕ) (before : List ℕ) → Written ws n at before before TooMany
-written_over ws n strings queue₀ kids₀ queue kids r told z at before = record { is = λ depth short. too_many refl (over-told ws n strings queue₀ kids₀ queue kids r told z depth short) refl }

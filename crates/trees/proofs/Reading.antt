@@ -31,7 +31,7 @@ use Rattle.k_tuples.specs.Sets.{◌∈◌}
 use Rattle.k_tuples.specs.Words.{member_at}
 use Rattle.decision_theory.specs.Automaton.{Entry}
 use Rattle.decision_theory.proofs.Tree.{entry}
-use Rattle.trees.specs.declared.list.Size.TheVariants.{Holds}
+use Rattle.std.specs.Prelude.{Ok}
 use Rattle.trees.specs.Listed.{Plain, Listed, Addable, word_at, production_at, entry_at, entries, code_at, Agrees, Appended, appended}
 
 -- ---- strings
@@ -103,7 +103,7 @@ module _ (ws : List ℕ) (n j : ℕ) (h : Listed ws n) (l : j < n) (t : Terminal
     pub letter-place : (e : ℕ) → e < c → e < 10
     letter-place e m = let q = count-le t string-well c counted in omega arith
 
-    pub letter-in : (e s : ℕ) → e < c → s ≡ get_or (stored_in (reads t)) e 0 → s + 1 ≡ code_at (word_at ws j) e
+    pub letter-in : (e s : ℕ) → e < c → s ≡ get_or (stored_in (reads t)) e 0 → suc s ≡ code_at (word_at ws j) e
     letter-in e s m g =
         let q = string-count in
         let r : s ≡ get_or (word_at ws j) e 0 = g ∙ ap (λ (v : Word). get_or v e 0) string-word in
@@ -237,6 +237,6 @@ module _ (ws : List ℕ) (n : ℕ) (t : Terminals) (p : ℕ) (can : Addable ws n
       ∙ (ap₂ (λ (l : List Entry) (e : Entry). l ++ e ∷ []) (entries-same vs ws n before)
       (ap₂ entry (ap (λ (s : Terminals). terminals_in (reads s)) string-is) third))
 
-  pub added : Appended n t p ws vs (Holds (n + 1))
+  pub added : Appended n t p ws vs (Ok (n + 1))
   unfolding more-listed
   added = appended refl few (λ l plain. (more-listed l plain, refl)) vs-length more-entries

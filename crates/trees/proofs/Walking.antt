@@ -5,12 +5,14 @@ use native.Mathlib.Decide.{dec_lt}
 use mathlib.Core.Path.{◌≡◌, refl, sym, ap, ap₂, ◌∙◌, subst}
 use mathlib.Core.List.{List, [], ◌∷◌, ◌++◌, append_assoc}
 use lib.ListN.{length, get_or, take, drop, set, length-set, take-append-drop}
-use lib.Seq.{length-take-le, take_at, take-set-le, get_or-set_same, get_or-set_other}
+use lib.Seq.{length-take-le, take_at, take-set-le, get_or-set_same, get_or-set_other, get_or_at}
 use Rattle.cfg.specs.Grammar.{Word}
-use Rattle.trees.specs.declared.list.Size.TheVariants.{Full, Holds}
+use Rattle.std.specs.Prelude.{Ok, Err}
+use Rattle.refusals.specs.declared.Refusal.TheVariants.{TooManyStates}
 use Rattle.trees.specs.Listed.{word_at, code_at}
 use Rattle.trees.specs.Queue.{prefix_of, Starts, GoesOnBy, Looked, nothing, found, Placed, Grow, Spread}
 use Rattle.trees.proofs.Ordering.{between, rises}
+use Rattle.trees.proofs.Reading.{word_small}
 use Rattle.trees.proofs.Looking.{starts-code}
 use Rattle.trees.proofs.Growing.{Growing, grow-start, grow-end, grow-over, grow-turn, low_part, high_part, longer-is}
 
@@ -134,15 +136,20 @@ module _ (ws : List ℕ) (n : ℕ) (order : List ℕ) (v from m : ℕ) (queue₀
               low d u j r k (no b) (yes o) = later c d t u o j (on.on t e) r
               low d u j r k (no b) (no o) = let z : d ≡ c = omega arith in let q = on.only u (subst (λ (p : ℕ). Starts x u (at p)) z r) in omega arith
 
+      -- Its terminal is small.
+      pub walk-small : (t : ℕ) → l ≡ suc t → t < 4096
+      walk-small t e =
+          let (u, q) = on.on t e in
+          let k = word_small ws n (get_or order c 0) ask.ordered.listed (place-string c h) (length x) in
+          let s : get_or (at c) (length x) 0 ≡ t = ap (λ (y : Word). get_or y (length x) 0) q ∙ get_or_at x t u 0 (length x) refl in
+          omega arith
+
       -- The walk ends,
-      pub walk-stop : l ≡ 0 → Spread ws n order v m queue₀ queue places₀ places (Holds end)
-      walk-stop z = record { grows = grow-end ws n v m f end queue₀ queue w.growing l 0 (stop-looked z) z; size = w.size; front = w.front; placed = λ e q. let s : end ≡ e = same q in subst (λ (k : ℕ). (q : ℕ) → m ≤ q → q < k → Placed ws n order (get_or queue q 0) (get_or places q 0)) s w.placed }
-        where
-          same : {a b : ℕ} → Holds a ≡ Holds b → a ≡ b
-          same q = cc
+      pub walk-stop : l ≡ 0 → Spread ws n order v m queue₀ queue places₀ places (Ok end)
+      walk-stop z = record { grows = grow-end ws n v m f end queue₀ queue w.growing l 0 (stop-looked z) z; size = w.size; front = w.front; placed = λ e q. let s : end ≡ e = cc in subst (λ (k : ℕ). (q : ℕ) → m ≤ q → q < k → Placed ws n order (get_or queue q 0) (get_or places q 0)) s w.placed }
 
       -- or there are too many,
-      pub walk-over : (l ≡ 0 → ⊥) → f < l → 2048 ≤ end → Spread ws n order v m queue₀ queue places₀ places Full
+      pub walk-over : (l ≡ 0 → ⊥) → f < l → 2048 ≤ end → Spread ws n order v m queue₀ queue places₀ places (Err TooManyStates)
       walk-over z g b = record { grows = grow-over ws n v m f end queue₀ queue w.growing l (get_or order c 0) (next-looked g) z b; size = w.size; front = w.front; placed = λ e q. let y : ◌≡◌ {A = ℕ} 0 1 = cc in absurd (omega arith) }
 
       -- or this terminal was there before.
@@ -208,8 +215,5 @@ module _ (ws : List ℕ) (n : ℕ) (order : List ℕ) (v from m : ℕ) (queue₀
               rw (e, get_or-set_same queue end (16 * get_or order c 0 + v % 16 + 1) 0 queue-in, get_or-set_same places end c 0 places-in) (letter l refl)
 
     -- Past the last place the walk ends too.
-    pub walk_end : n ≤ c → Spread ws n order v m queue₀ queue places₀ places (Holds end)
-    walk_end h = record { grows = grow-end ws n v m f end queue₀ queue w.growing 0 0 (past-looked h) refl; size = w.size; front = w.front; placed = λ e q. let s : end ≡ e = same q in subst (λ (k : ℕ). (q : ℕ) → m ≤ q → q < k → Placed ws n order (get_or queue q 0) (get_or places q 0)) s w.placed }
-      where
-        same : {a b : ℕ} → Holds a ≡ Holds b → a ≡ b
-        same q = cc
+    pub walk_end : n ≤ c → Spread ws n order v m queue₀ queue places₀ places (Ok end)
+    walk_end h = record { grows = grow-end ws n v m f end queue₀ queue w.growing 0 0 (past-looked h) refl; size = w.size; front = w.front; placed = λ e q. let s : end ≡ e = cc in subst (λ (k : ℕ). (q : ℕ) → m ≤ q → q < k → Placed ws n order (get_or queue q 0) (get_or places q 0)) s w.placed }

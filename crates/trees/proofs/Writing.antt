@@ -17,7 +17,8 @@ use Rattle.k_tuple.specs.Packed.{number_of}
 use Rattle.k_tuple.specs.declared.Terminals.{Terminals}
 use Rattle.k_tuples.specs.Words.{member_at}
 use Rattle.k_tuples.proofs.Tests.{unpassed, holds}
-use Rattle.trees.specs.Listed.{Listed, word_at, production_at, code_at}
+use Rattle.trees.specs.Listed.{Listed, word_at, production_at, code_at, code_of}
+use Rattle.std.specs.Prelude.{Option, Some, None, IsSome}
 use Rattle.trees.specs.Queue.{State, Deep}
 use Rattle.trees.specs.Output.{accept_of, letter_of, edges_in, states_in, kids_from, Edges, States, Measures, Puts}
 use Rattle.trees.proofs.Reading.{string-count, code_in, word_small}
@@ -114,22 +115,23 @@ module _ (ws : List ℕ) (n v : ℕ) (listed : Listed ws n) (deep : Deep ws n v)
   pub reached-inside : i < n
   reached-inside = let h = deep.inside in omega arith
 
-  pub reached : (l : ℕ) → l ≡ code_at (word_at ws i) (v % 16 - 1) → l - 1 ≡ letter_of ws v
+  pub reached : (o : Option ℕ) → code_of o ≡ code_at (word_at ws i) (v % 16 - 1) → (t : ℕ) → o ≡ Some t → t ≡ letter_of ws v
   unfolding letter_of
-  reached l q =
+  reached o q t z =
       let h = deep.some in
       let g = deep.long in
       let c = code_in (word_at ws (v / 16)) (v % 16 - 1) (omega arith) in
-      let d : l ≡ code_at (word_at ws (v / 16)) (v % 16 - 1) = subst (λ (j : ℕ). l ≡ code_at (word_at ws j) (v % 16 - 1)) e q in
+      let d : suc t ≡ code_at (word_at ws (v / 16)) (v % 16 - 1) = sym (ap code_of z) ∙ subst (λ (j : ℕ). code_of o ≡ code_at (word_at ws j) (v % 16 - 1)) e q in
       omega arith
 
-  pub reached-some : (l : ℕ) → l ≡ code_at (word_at ws i) (v % 16 - 1) → 1 ≤ l
-  reached-some l q =
+  pub reached-some : (o : Option ℕ) → code_of o ≡ code_at (word_at ws i) (v % 16 - 1) → IsSome o
+  reached-some (Some t) q = refl
+  reached-some None q =
       let h = deep.some in
       let g = deep.long in
       let c = code_in (word_at ws (v / 16)) (v % 16 - 1) (omega arith) in
-      let d : l ≡ code_at (word_at ws (v / 16)) (v % 16 - 1) = subst (λ (j : ℕ). l ≡ code_at (word_at ws j) (v % 16 - 1)) e q in
-      omega arith
+      let d : 0 ≡ code_at (word_at ws (v / 16)) (v % 16 - 1) = subst (λ (j : ℕ). 0 ≡ code_at (word_at ws j) (v % 16 - 1)) e q in
+      absurd (omega arith)
 
 pub reached-small : (ws : List ℕ) (n v : ℕ) → Listed ws n → Deep ws n v → (r : ℕ) → r ≡ letter_of ws v → r < 4096
 unfolding letter_of

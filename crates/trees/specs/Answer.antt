@@ -4,10 +4,9 @@ use Rattle.cfg.specs.Grammar.{Word}
 use Rattle.cfg.specs.Write.{write_numbers}
 use Rattle.k_tuples.specs.Sets.{◌∈◌}
 use Rattle.decision_theory.specs.Automaton.{Entry, State, nodes, states_from, automaton_numbers}
-use Rattle.trees.specs.declared.list.Size.{Size}
-use Rattle.trees.specs.declared.list.Size.TheVariants.{Full, Holds}
-use Rattle.trees.specs.declared.Told.{Told}
-use Rattle.trees.specs.declared.Told.TheVariants.{TooMany, NoRoom, Upto}
+use Rattle.std.specs.Prelude.{Result, Ok, Err}
+use Rattle.refusals.specs.declared.Refusal.{Refusal}
+use Rattle.refusals.specs.declared.Refusal.TheVariants.{TooManyStates, LentTooFew}
 use Rattle.trees.specs.Listed.{Listed, entries}
 use Rattle.trees.specs.Queue.{Within}
 
@@ -31,22 +30,22 @@ pub record Strings (ws : List ℕ) (n : ℕ) : Type 0 where
   pub apart : Apart (entries ws n)
 
 -- The number of bytes is told, or that there are more than 2,048 states.
-pub data SizeTold (S : List State) (r : Size) : Type 0 where
-  over : r ≡ Full → 2048 < length S → SizeTold S r
-  sized : length S ≤ 2048 → r ≡ Holds (length (bytes_of S)) → SizeTold S r
+pub data SizeTold (S : List State) (r : Result ℕ Refusal) : Type 0 where
+  over : r ≡ Err TooManyStates → 2048 < length S → SizeTold S r
+  sized : length S ≤ 2048 → r ≡ Ok (length (bytes_of S)) → SizeTold S r
 
 -- The bytes are written from a place on, and the place behind them is told; or the bytes are as they came.
-pub data Wrote (S : List State) (at : ℕ) (before after : List ℕ) (r : Told) : Type 0 where
-  too_many : r ≡ TooMany → 2048 < length S → after ≡ before → Wrote S at before after r
-  no_room : length S ≤ 2048 → r ≡ NoRoom → length before < at + length (bytes_of S) → after ≡ before → Wrote S at before after r
+pub data Wrote (S : List State) (at : ℕ) (before after : List ℕ) (r : Result ℕ Refusal) : Type 0 where
+  too_many : r ≡ Err TooManyStates → 2048 < length S → after ≡ before → Wrote S at before after r
+  no_room : length S ≤ 2048 → r ≡ Err LentTooFew → length before < at + length (bytes_of S) → after ≡ before → Wrote S at before after r
   wrote :
-      length S ≤ 2048 → r ≡ Upto (at + length (bytes_of S)) → at + length (bytes_of S) ≤ length before
+      length S ≤ 2048 → r ≡ Ok (at + length (bytes_of S)) → at + length (bytes_of S) ≤ length before
       → after ≡ take at before ++ bytes_of S ++ drop (at + length (bytes_of S)) before
       → Wrote S at before after r
 
 -- The same for strings in words: for any depth that they keep to.
-pub record Measured (ws : List ℕ) (n : ℕ) (r : Size) : Type 0 where
+pub record Measured (ws : List ℕ) (n : ℕ) (r : Result ℕ Refusal) : Type 0 where
   pub is : (depth : ℕ) → Within depth (entries ws n) → SizeTold (tree_of (entries ws n) depth) r
 
-pub record Written (ws : List ℕ) (n at : ℕ) (before after : List ℕ) (r : Told) : Type 0 where
+pub record Written (ws : List ℕ) (n at : ℕ) (before after : List ℕ) (r : Result ℕ Refusal) : Type 0 where
   pub is : (depth : ℕ) → Within depth (entries ws n) → Wrote (tree_of (entries ws n) depth) at before after r

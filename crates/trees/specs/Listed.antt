@@ -1,13 +1,13 @@
 -- Strings with their productions in words, three words each. Assumes nothing.
-use Rattle.std.specs.Prelude.{ℕ, zero, suc, ◌+◌, ◌*◌, ◌≤◌, ◌<◌, ◌≡◌, Bool, true, false, List, [], ◌∷◌, ◌++◌, length, get_or, take}
+use Rattle.std.specs.Prelude.{ℕ, zero, suc, ◌+◌, ◌*◌, ◌≤◌, ◌<◌, ◌≡◌, Bool, true, false, List, [], ◌∷◌, ◌++◌, length, get_or, take, Option, Some, None, Result, Ok, Err}
 use Rattle.cfg.specs.Grammar.{Word}
 use Rattle.k_tuple.specs.Strings.{slots, good}
 use Rattle.k_tuple.specs.Packed.{reads, terminals_in}
 use Rattle.k_tuple.specs.declared.Terminals.{Terminals}
 use Rattle.k_tuples.specs.Words.{member_at}
 use Rattle.decision_theory.specs.Automaton.{Entry}
-use Rattle.trees.specs.declared.list.Size.{Size}
-use Rattle.trees.specs.declared.list.Size.TheVariants.{Full, Holds}
+use Rattle.refusals.specs.declared.Refusal.{Refusal}
+use Rattle.refusals.specs.declared.Refusal.TheVariants.{TooManyStates}
 
 -- A well-formed string of width w other than ε. The empty one is among them.
 pub record Plain (w : ℕ) (t : Terminals) : Type 0 where
@@ -36,6 +36,11 @@ unfoldable pub entries : List ℕ → ℕ → List Entry
 entries ws zero = []
 entries ws (suc n) = entries ws n ++ entry_at ws n ∷ []
 
+-- One more than a terminal; 0 for none.
+abbrev pub code_of : Option ℕ → ℕ
+code_of None = 0
+code_of (Some t) = suc t
+
 -- One more than the terminal at a place; 0 past the last.
 unfoldable pub code_at : Word → ℕ → ℕ
 code_at [] e = 0
@@ -59,9 +64,9 @@ abbrev pub SameWidth : List ℕ → ℕ → ℕ → Type 0
 SameWidth ws n w = (l : Listed ws n) × (l.width ≡ w)
 
 -- What adding does.
-pub data Appended (n : ℕ) (t : Terminals) (production : ℕ) (before after : List ℕ) (r : Size) : Type 0 where
-  no_room : r ≡ Full → 2048 ≤ n → after ≡ before → Appended n t production before after r
+pub data Appended (n : ℕ) (t : Terminals) (production : ℕ) (before after : List ℕ) (r : Result ℕ Refusal) : Type 0 where
+  no_room : r ≡ Err TooManyStates → 2048 ≤ n → after ≡ before → Appended n t production before after r
   appended :
-      r ≡ Holds (n + 1) → n < 2048 → ((l : Listed before n) → Plain l.width t → SameWidth after (n + 1) l.width) → length after ≡ length before
+      r ≡ Ok (n + 1) → n < 2048 → ((l : Listed before n) → Plain l.width t → SameWidth after (n + 1) l.width) → length after ≡ length before
       → entries after (n + 1) ≡ entries before n ++ record { word = terminals_in (reads t); production = production } ∷ []
       → Appended n t production before after r

@@ -3,8 +3,9 @@ use Rattle.std.specs.Prelude.{ℕ, suc, ◌+◌, ◌/◌, ◌%◌, ◌≤◌, �
 use Rattle.cfg.specs.Grammar.{Word}
 use Rattle.k_tuples.specs.Sets.{◌∈◌}
 use Rattle.decision_theory.specs.Automaton.{Entry, letters, along, longer, prefixes}
-use Rattle.trees.specs.declared.list.Size.{Size}
-use Rattle.trees.specs.declared.list.Size.TheVariants.{Full, Holds}
+use Rattle.std.specs.Prelude.{Result, Ok, Err}
+use Rattle.refusals.specs.declared.Refusal.{Refusal}
+use Rattle.refusals.specs.declared.Refusal.TheVariants.{TooManyStates}
 use Rattle.trees.specs.Listed.{Listed, word_at, entries}
 use Rattle.trees.specs.Order.{InOrder}
 
@@ -53,10 +54,10 @@ abbrev pub longer_by : Word → List ℕ → List Word
 longer_by x ts = map (λ (t : ℕ). x ++ t ∷ []) ts
 
 -- What the queue is when the states behind state v were put at its end.
-pub data Grows (ws : List ℕ) (n v m : ℕ) (before after : List ℕ) (r : Size) : Type 0 where
-  over : r ≡ Full → 2048 < m + length (letters_at ws n (prefix_of ws v)) → length after ≡ length before → Grows ws n v m before after r
+pub data Grows (ws : List ℕ) (n v m : ℕ) (before after : List ℕ) (r : Result ℕ Refusal) : Type 0 where
+  over : r ≡ Err TooManyStates → 2048 < m + length (letters_at ws n (prefix_of ws v)) → length after ≡ length before → Grows ws n v m before after r
   grows :
-      (end : ℕ) → r ≡ Holds end → end ≤ 2048 → length after ≡ length before
+      (end : ℕ) → r ≡ Ok end → end ≤ 2048 → length after ≡ length before
       → end ≡ m + length (letters_at ws n (prefix_of ws v))
       → take m after ≡ take m before
       → prefixes_in ws (take end after) ≡ prefixes_in ws (take m before) ++ longer_by (prefix_of ws v) (letters_at ws n (prefix_of ws v))
@@ -90,11 +91,11 @@ pub record Grow (ws : List ℕ) (n : ℕ) (order : List ℕ) (v from m : ℕ) (q
   pub places-room : 2048 ≤ length places
 
 -- The queue has grown, and each new state has its place.
-pub record Spread (ws : List ℕ) (n : ℕ) (order : List ℕ) (v m : ℕ) (queue queue' places places' : List ℕ) (r : Size) : Type 0 where
+pub record Spread (ws : List ℕ) (n : ℕ) (order : List ℕ) (v m : ℕ) (queue queue' places places' : List ℕ) (r : Result ℕ Refusal) : Type 0 where
   pub grows : Grows ws n v m queue queue' r
   pub size : length places' ≡ length places
   pub front : take m places' ≡ take m places
-  pub placed : (end : ℕ) → r ≡ Holds end → (q : ℕ) → m ≤ q → q < end → Placed ws n order (get_or queue' q 0) (get_or places' q 0)
+  pub placed : (end : ℕ) → r ≡ Ok end → (q : ℕ) → m ≤ q → q < end → Placed ws n order (get_or queue' q 0) (get_or places' q 0)
 
 -- Strings to build from, and where to.
 pub record Build (ws : List ℕ) (n : ℕ) (order queue kids places : List ℕ) : Type 0 where
@@ -118,11 +119,11 @@ pub record Tree (ws : List ℕ) (n m : ℕ) (queue kids : List ℕ) : Type 0 whe
   pub counts : (q : ℕ) → q < m → get_or kids q 0 ≡ length (letters_at ws n (prefix_of ws (get_or queue q 0)))
 
 -- Their number is told, or that there are more than 2,048.
-pub data Built (ws : List ℕ) (n : ℕ) (queue kids queue' kids' : List ℕ) (r : Size) : Type 0 where
+pub data Built (ws : List ℕ) (n : ℕ) (queue kids queue' kids' : List ℕ) (r : Result ℕ Refusal) : Type 0 where
   too_many :
-      r ≡ Full → length queue' ≡ length queue → length kids' ≡ length kids
+      r ≡ Err TooManyStates → length queue' ≡ length queue → length kids' ≡ length kids
       → ((depth : ℕ) → Within depth (entries ws n) → 2048 < length (prefixes (entries ws n) (suc depth) ([] ∷ [])))
       → Built ws n queue kids queue' kids' r
   built :
-      (m : ℕ) → r ≡ Holds m → length queue' ≡ length queue → length kids' ≡ length kids → Tree ws n m queue' kids'
+      (m : ℕ) → r ≡ Ok m → length queue' ≡ length queue → length kids' ≡ length kids → Tree ws n m queue' kids'
       → Built ws n queue kids queue' kids' r

@@ -4,7 +4,7 @@
 ghost use Rattle.std.specs.Prelude.{◌≤◌, length};
 ghost use Rattle.trees.specs.Answer.{Strings, Measured, Written};
 
-use crate::list::Size;
+use refusals::Refusal;
 
 pub mod collect;
 pub mod list;
@@ -12,16 +12,8 @@ pub mod order;
 pub mod output;
 pub mod tree;
 
-// What is told of a tree that is to be written: more than 2,048 states, too few bytes, or the place behind it.
-#[derive(Clone, Copy)]
-pub enum Told {
-    TooMany,
-    NoRoom,
-    Upto(usize),
-}
-
-// How many bytes the tree of n strings takes; Full where it has more than 2,048 states.
-pub fn measured(list: &[u64], n: usize) -> Size
+// How many bytes the tree of n strings takes, or that it has more than 2,048 states.
+pub fn measured(list: &[u64], n: usize) -> Result<usize, Refusal>
     requires { Strings list.now n }
     ensures { Measured list.now n result }
 {
@@ -30,16 +22,14 @@ pub fn measured(list: &[u64], n: usize) -> Size
     let mut order = [0u16; 2048];
     let mut places = [0u16; 2048];
     order::arrange(list, n, &mut order, &mut places);
-    let answer = tree::build(list, n, &order, &mut queue, &mut kids, &mut places);
-    let Size::Holds(m) = answer else {
-        return answer;
-    };
+    let m = tree::build(list, n, &order, &mut queue, &mut kids, &mut places)?;
     let size = output::measure(list, n, &queue, &kids, m);
-    Size::Holds(size)
+    Ok(size)
 }
 
-// Writes the tree of n strings from a place of the bytes on, or nothing.
-pub fn written(list: &[u64], n: usize, bytes: &mut [u8], at: usize) -> Told
+// Writes the tree of n strings from a place of the bytes on, and tells the place behind it. Where it has more than 2,048 states, or there are too few bytes, nothing
+// is written.
+pub fn written(list: &[u64], n: usize, bytes: &mut [u8], at: usize) -> Result<usize, Refusal>
     requires { Strings list.now n × (at ≤ length bytes.old) }
     ensures { Written list.now n at bytes.old bytes.new result }
 {
@@ -48,14 +38,11 @@ pub fn written(list: &[u64], n: usize, bytes: &mut [u8], at: usize) -> Told
     let mut order = [0u16; 2048];
     let mut places = [0u16; 2048];
     order::arrange(list, n, &mut order, &mut places);
-    let answer = tree::build(list, n, &order, &mut queue, &mut kids, &mut places);
-    let Size::Holds(m) = answer else {
-        return Told::TooMany;
-    };
+    let m = tree::build(list, n, &order, &mut queue, &mut kids, &mut places)?;
     let size = output::measure(list, n, &queue, &kids, m);
     if bytes.len() - at < size {
-        return Told::NoRoom;
+        return Err(Refusal::LentTooFew);
     }
     let next = output::write(bytes, at, list, n, &queue, &kids, m);
-    Told::Upto(next)
+    Ok(next)
 }

@@ -1,19 +1,13 @@
 // Strings with their productions in lent words, three words each: the string's two, and the production.
 ghost use Rattle.std.specs.Prelude.{◌≡◌, ◌+◌, ◌*◌, ◌≤◌, ◌<◌, length};
 ghost use Rattle.k_tuples.specs.Words.{member_at};
-ghost use Rattle.trees.specs.Listed.{Listed, Addable, word_at, code_at, Agrees, Appended};
+ghost use Rattle.trees.specs.Listed.{Listed, Addable, word_at, code_of, code_at, Agrees, Appended};
 
 use k_tuple::Terminals;
 use k_tuple::parts::{count, same};
 use k_tuple::well::{cut, slot};
 use k_tuples::set::read;
-
-// How many there are, or that there are too many.
-#[derive(Clone, Copy)]
-pub enum Size {
-    Full,
-    Holds(usize),
-}
+use refusals::Refusal;
 
 // String j of n.
 pub fn string(list: &[u64], n: usize, j: usize) -> Terminals
@@ -23,17 +17,17 @@ pub fn string(list: &[u64], n: usize, j: usize) -> Terminals
     read(list, 3 * j)
 }
 
-// One more than the terminal at place e of string j; 0 where it has none there.
-pub fn letter(list: &[u64], n: usize, j: usize, e: u64) -> u64
+// The terminal at place e of string j, where it has one there.
+pub fn letter(list: &[u64], n: usize, j: usize, e: u64) -> Option<u64>
     requires { Listed list.now n × (j < n) }
-    ensures { result ≡ code_at (word_at list.now j) e }
+    ensures { code_of result ≡ code_at (word_at list.now j) e }
 {
     let t = string(list, n, j);
     let l = count(t);
     if l <= e {
-        return 0;
+        return None;
     }
-    slot(t, e) + 1
+    Some(slot(t, e))
 }
 
 // Whether strings i and j have the same first d terminals; i has so many.
@@ -46,17 +40,17 @@ pub fn same_start(list: &[u64], n: usize, i: usize, j: usize, d: u64) -> bool
     same(x, y)
 }
 
-// Puts a string with its production behind the n that there are, of which 2,048 have room.
-pub fn add(list: &mut [u64], n: usize, t: Terminals, production: u64) -> Size
+// Puts a string with its production behind the n that there are; how many there are then. There is room for 2,048, and a tree of more strings has more states.
+pub fn add(list: &mut [u64], n: usize, t: Terminals, production: u64) -> Result<usize, Refusal>
     requires { Addable list.old n t production }
     ensures { Appended n t production list.old list.new result }
 {
     if 2048 <= n {
-        return Size::Full;
+        return Err(Refusal::TooManyStates);
     }
     let at = 3 * n;
     list[at] = t.lo;
     list[at + 1] = t.hi;
     list[at + 2] = production;
-    Size::Holds(n + 1)
+    Ok(n + 1)
 }

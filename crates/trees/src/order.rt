@@ -10,14 +10,12 @@ fn not_after(list: &[u64], n: usize, i: usize, j: usize) -> bool
     requires { Listed list.now n × ((i < n) × (j < n)) }
     ensures { result ≡ not_after (word_at list.now i) (word_at list.now j) }
 {
-    let mut e: u64 = 0;
-    while e < 10 {
+    for e in 0..10 {
         let a = letter(list, n, i, e);
         let b = letter(list, n, j, e);
         if a != b {
             return a < b;
         }
-        e += 1;
     }
     true
 }
@@ -33,8 +31,8 @@ fn left_next(list: &[u64], n: usize, left: &[u16], i: usize, right: &[u16], j: u
     if right.len() <= j {
         return true;
     }
-    let x = left[i] as usize;
-    let y = right[j] as usize;
+    let x = usize::from(left[i]);
+    let y = usize::from(right[j]);
     not_after(list, n, x, y)
 }
 
@@ -45,26 +43,14 @@ fn merge(list: &[u64], n: usize, left: &[u16], right: &[u16], both: &mut [u16])
 {
     let mut i: usize = 0;
     let mut j: usize = 0;
-    while i + j < both.len() {
+    for at in 0..both.len() {
         if left_next(list, n, left, i, right, j) {
-            both[i + j] = left[i];
+            both[at] = left[i];
             i += 1;
         } else {
-            both[i + j] = right[j];
+            both[at] = right[j];
             j += 1;
         }
-    }
-}
-
-// A copy of a list, at the front.
-fn copy(from: &[u16], to: &mut [u16])
-    requires { length from.now ≤ length to.old }
-    ensures { take (length from.now) to.new ≡ from.now }
-{
-    let mut i: usize = 0;
-    while i < from.len() {
-        to[i] = from[i];
-        i += 1;
     }
 }
 
@@ -82,7 +68,7 @@ fn merge_in_place(list: &[u64], n: usize, order: &mut [u16], spare: &mut [u16], 
     ensures { order.new ≡ merged list.now (take mid order.old) (drop mid order.old) }
 {
     let size = order.len();
-    copy(order, spare);
+    spare[..size].copy_from_slice(order);
     merge_parts(list, n, &spare[..size], mid, order);
 }
 
@@ -106,10 +92,8 @@ fn count_up(order: &mut [u16])
     requires { length order.old ≤ 2048 }
     ensures { Numbers (length order.old) order.new }
 {
-    let mut i: usize = 0;
-    while i < order.len() {
-        order[i] = i as u16;
-        i += 1;
+    for (i, place) in order.iter_mut().enumerate() {
+        *place = i as u16;
     }
 }
 

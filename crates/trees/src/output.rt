@@ -32,7 +32,7 @@ fn reached_by(list: &[u64], n: usize, state: u64) -> u64
 {
     let i = index(state / 16);
     let d = state % 16;
-    letter(list, n, i, d - 1) - 1
+    letter(list, n, i, d - 1).unwrap()
 }
 
 // How many bytes a number takes.
@@ -51,13 +51,11 @@ fn edges_size(list: &[u64], n: usize, queue: &[u64], from: usize, to: usize) -> 
     ensures { Measures (write_numbers (edges_in list.now queue.now from (to - from))) (4 * (to - from)) result }
 {
     let mut total: usize = 0;
-    let mut c = from;
-    while c < to {
+    for c in from..to {
         let state = queue[c];
         let by = size_of(reached_by(list, n, state));
         let at = size_of(c as u64);
         total = total + by + at;
-        c += 1;
     }
     total
 }
@@ -69,15 +67,13 @@ fn states_size(list: &[u64], n: usize, queue: &[u64], kids: &[u64], m: usize) ->
 {
     let mut total: usize = 0;
     let mut next: usize = 1;
-    let mut s: usize = 0;
-    while s < m {
+    for s in 0..m {
         let state = queue[s];
         let more = kids[s];
         let end = next + index(more);
         let head = size_of(accepting(list, n, state)) + size_of(more);
         total = total + head + edges_size(list, n, queue, next, end);
         next = end;
-        s += 1;
     }
     total
 }
@@ -128,12 +124,10 @@ fn put_edges(
     ensures { Puts bytes.old bytes.new at result (write_numbers (edges_in list.now queue.now from (to - from))) }
 {
     let mut place = at;
-    let mut c = from;
-    while c < to {
+    for c in from..to {
         let state = queue[c];
         let by = reached_by(list, n, state);
         place = put_pair(bytes, place, by, c as u64);
-        c += 1;
     }
     place
 }
@@ -153,8 +147,7 @@ fn put_states(
 {
     let mut place = at;
     let mut next: usize = 1;
-    let mut s: usize = 0;
-    while s < m {
+    for s in 0..m {
         let state = queue[s];
         let more = kids[s];
         let end = next + index(more);
@@ -162,7 +155,6 @@ fn put_states(
         place = put_pair(bytes, place, production, more);
         place = put_edges(bytes, place, list, n, queue, next, end);
         next = end;
-        s += 1;
     }
     place
 }

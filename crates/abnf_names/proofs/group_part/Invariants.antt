@@ -1,12 +1,7 @@
 -- What the loop of `abnf_names::group_part` keeps.
 use Rattle.abnf_names.proofs.PartLaws.{Counts-down}
-use lib.ListN.{length}
-use Prim.Native.Nat.{◌-◌}
 use Rattle.abnf_names.specs.Parts.{group_part}
 use Rattle.abnf_names.proofs.group_part.Given as goal
 
 abbrev pub invariant-loop-at : goal.invariant-loop-at
 invariant-loop-at l = Counts-down l.text (group_part 0 l.g 0 l.text) l.state l.left l.at
-
-abbrev pub decreases-loop-at : goal.decreases-loop-at
-decreases-loop-at l = length l.text - l.at

@@ -2,14 +2,14 @@
 use Rattle.abnf_names.proofs.PartLaws.{seeks-start, seeks-end, seeks-here, seeks-next}
 use Rattle.abnf_names.proofs.name_numbered.Goals as goal
 
-pub loop-k-init : goal.loop-k-init
-loop-k-init c = search seeks-start
+pub loop-place-init : goal.loop-place-init
+loop-place-init c = search seeks-start
 
-pub returns-then-before-index : goal.returns-then-before-index
-returns-then-before-index c = search seeks-here
+pub returns-then-rank_of-from : goal.returns-then-rank_of-from
+returns-then-rank_of-from c = search seeks-here
 
-pub loop-k-preserved : goal.loop-k-preserved
-loop-k-preserved c = search seeks-next
+pub loop-place-preserved : goal.loop-place-preserved
+loop-place-preserved c = search seeks-next
 
 pub returns : goal.returns
 returns c = search seeks-end

@@ -1,16 +1,15 @@
 -- `terminal_part` meets its contract. Assumes nothing.
-use borrow.Author.Rules.{rules}
-use Rattle.abnf_names.proofs.PartLaws.{refused-terminal, refused-inside, whole-terminal, terminal-in-text, literals-inside}
+use Rattle.abnf_names.proofs.PartLaws.{none_inside, refused-terminal, whole-terminal, terminal-in-text, literals-few}
 use Rattle.abnf_names.proofs.terminal_part.Goals as goal
 
-pub returns-in_default-clause-says : goal.returns-in_default-clause-says
-returns-in_default-clause-says c = search refused-terminal
+pub returns-then-is_err-clause-says : goal.returns-then-is_err-clause-says
+returns-then-is_err-clause-says c = search refused-terminal
 
-pub returns-in_default-clause-inside : goal.returns-in_default-clause-inside
-returns-in_default-clause-inside c = search refused-inside
+pub returns-then-is_err-clause-inside : goal.returns-then-is_err-clause-inside
+returns-then-is_err-clause-inside c = search none_inside
 
 pub terminal_in-requires : goal.terminal_in-requires
-terminal_in-requires c = literals-inside _ c.scan-built.ensures.1 _ c.in-Done.is c.scan-built.new.literals (search rules)
+terminal_in-requires c = search literals-few
 
 pub returns-clause-says : goal.returns-clause-says
 returns-clause-says c = search whole-terminal

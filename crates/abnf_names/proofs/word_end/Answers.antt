@@ -5,11 +5,11 @@ use Rattle.abnf_names.proofs.word_end.Goals as goal
 pub loop-at-init : goal.loop-at-init
 loop-at-init c = search ends-start
 
-pub returns-then-head-eq0 : goal.returns-then-head-eq0
-returns-then-head-eq0 c = search ends-here
+pub returns-then-head_of-eq0 : goal.returns-then-head_of-eq0
+returns-then-head_of-eq0 c = search ends-here
 
 pub loop-at-preserved : goal.loop-at-preserved
 loop-at-preserved c = search ends_next
 
 pub returns : goal.returns
-returns c = search ends-past
+returns c = rw c.max.ensures (search ends-past)

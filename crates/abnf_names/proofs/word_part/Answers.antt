@@ -2,8 +2,8 @@
 use Rattle.abnf_names.proofs.PartLaws.{word-inside, word-outside}
 use Rattle.abnf_names.proofs.word_part.Goals as goal
 
-pub returns-then-end-text : goal.returns-then-end-text
-returns-then-end-text c = search word-inside
+pub returns-then-text-end : goal.returns-then-text-end
+returns-then-text-end c = search word-outside
 
 pub returns : goal.returns
-returns c = search word-outside
+returns c = search word-inside

@@ -1,31 +1,26 @@
 -- `measure_k` meets its contract. Assumes nothing.
-use native.Mathlib.Omega.{arith}
-use Rattle.automaton.proofs.Passes.{measures-start, measures-skip, measures-set, measures-end}
+use borrow.Author.Rules.{rules}
+use Rattle.std.proofs.Common.{◌≡◌, Err}
+use Rattle.automaton.proofs.Sizing.{size-is}
+use Rattle.automaton.proofs.Passes.{measures-start, measures-skip, measures-set, measures-over, measures-end}
+use Rattle.automaton.proofs.measure_k.Goals.{then-t-a+in_ok-size, else-t-a}
 use Rattle.automaton.proofs.measure_k.Goals as goal
 
 pub loop-a-init : goal.loop-a-init
 loop-a-init c = let s = c.requires in measures-start _ _ _ _ _ s.1
 
-pub offset_bounds-ks-a : goal.offset_bounds-ks-a
-offset_bounds-ks-a c = let s = c.requires in omega (arith, s.0.0.fit.few, c.loop-a-test.true)
+pub size_of_tree-requires : goal.size_of_tree-requires
+size_of_tree-requires c = let s = c.requires in let t = c.loop-a-test.true in ((s.0.0, s.0.1.each _ t c.if-t-a.true), t)
 
-pub bounds-ks-a : goal.bounds-ks-a
-bounds-ks-a c = let s = c.requires in omega (arith, s.0.0.fit.few, c.loop-a-test.true)
-
-pub size_of_tree-size-requires : goal.size_of_tree-size-requires
-size_of_tree-size-requires c = let s = c.requires in let t = c.loop-a-test.true in ((s.0.0, s.0.1.each _ t c.if-ks-a.true), t)
-
-pub offset_bounds-sizes-a : goal.offset_bounds-sizes-a
-offset_bounds-sizes-a c = let s = c.requires in omega (arith, s.0.0.fit.few, c.loop-a-test.true)
-
-pub bounds-sizes-a : goal.bounds-sizes-a
-bounds-sizes-a c = let s = c.requires in omega (arith, s.0.0.fit.few, c.loop-a-test.true)
-
-pub loop-a-preserved-then-ks-a : goal.loop-a-preserved-then-ks-a
-loop-a-preserved-then-ks-a c = let s = c.requires in measures-set c.loop-a.invariant c.loop-a-test.true s.0.0.fit.few c.if-ks-a.true _ c.size_of_tree-size.ensures
+pub returns-in_err-size : goal.returns-in_err-size
+returns-in_err-size c = let e : c.from_residual.result ≡ Err c.in_err-size.field-0.0 = search rules in rw e (measures-over c.loop-a.invariant c.loop-a-test.true c.size_of_tree.ensures _ c.in_err-size.was)
 
 pub loop-a-preserved : goal.loop-a-preserved
-loop-a-preserved c = measures-skip c.loop-a.invariant c.loop-a-test.true c.if-ks-a.false
+loop-a-preserved c =
+    elim c.if-t-a.branch [
+      | then-t-a+in_ok-size w ↦ rw w.sizes-is (measures-set c.loop-a.invariant c.loop-a-test.true c.requires.0.0.fit.few w.if-t-a.true _ (size-is w.size_of_tree.ensures _ w.in_ok-size.was))
+      | else-t-a w ↦ rw w.sizes-is (measures-skip c.loop-a.invariant c.loop-a-test.true w.if-t-a.false)
+    ]
 
 pub returns : goal.returns
 returns c = search measures-end

@@ -4,31 +4,16 @@ use Rattle.automaton.proofs.Passes.{planned, writing_start, writing_more, writin
 use Rattle.automaton.proofs.write_all.Goals as goal
 
 pub loop-k-init : goal.loop-k-init
-loop-k-init c = let s = c.requires in writing_start _ s.0.0 s.0.1 s.1
+loop-k-init c = let s = c.requires in writing_start _ s.0 s.1
 
 pub stand_at-requires : goal.stand_at-requires
-stand_at-requires c = let w = c.loop-k.invariant in let t = c.loop-k-test.true in ((w.kept.given, omega arith), w.known)
+stand_at-requires c = let w = c.loop-k.invariant in let t = c.loop-k-test.true in (w.kept.ready, omega arith)
 
 pub write_k-requires : goal.write_k-requires
-write_k-requires c = let w = c.loop-k.invariant in ((planned w.kept.given, c.stand_at.ensures.all), w.fitting)
-
-pub overflow_add-k : goal.overflow_add-k
-overflow_add-k c = let t = c.loop-k-test.true in omega arith
-
-pub loop-k-smaller : goal.loop-k-smaller
-loop-k-smaller c = let t = c.loop-k-test.true in omega arith
+write_k-requires c = let w = c.loop-k.invariant in ((planned w.kept.ready, c.stand_at.ensures.all), w.fitting)
 
 pub loop-k-preserved : goal.loop-k-preserved
 loop-k-preserved c = writing_more c.loop-k.invariant c.loop-k-test.true c.stand_at.ensures c.write_k.ensures c.stand_at.auto.res c.stand_at.auto.scratch
-
-pub shape_of-res : goal.shape_of-res
-shape_of-res c = c.loop-k.invariant.kept.result-long
-
-pub shape_of-scratch : goal.shape_of-scratch
-shape_of-scratch c = c.loop-k.invariant.kept.scratch-long
-
-pub shape_of-out : goal.shape_of-out
-shape_of-out c = c.loop-k.invariant.out-long
 
 pub returns : goal.returns
 returns c = search writing-end

@@ -1,5 +1,5 @@
 -- `blocks::clear_first` meets its contract. The loop's invariant: the first i sets are empty. Assumes nothing.
-use mathlib.Core.Path.{◌≡◌, subst}
+use mathlib.Core.Path.{subst}
 use mathlib.Core.List.{[]}
 use native.Mathlib.Omega.{arith}
 use lib.ListN.{set}
@@ -7,7 +7,7 @@ use Rattle.k_tuples.specs.States.{State}
 use Rattle.k_tuples.specs.Blocks.{sets_in}
 use Rattle.k_tuples.proofs.Blocks.{in-sets}
 use Rattle.blocks.specs.Stores.{Turned}
-use Rattle.blocks.proofs.Stores.{as-turned, turned-store, turned_then, turned-length, repeat-more}
+use Rattle.blocks.proofs.Stores.{as-turned, turned-store, turned_then, repeat-more}
 use Rattle.blocks.proofs.clear_first.Goals as goal
 
 pub loop-i-init : goal.loop-i-init
@@ -17,12 +17,6 @@ pub clear_block-requires : goal.clear_block-requires
 clear_block-requires c =
     let p = c.requires in
     (record { k = p.0.k; width = p.0.width; store = turned-store (c.loop-i.invariant.1 p.0.k p.0.width p.0.store) }, omega (arith, c.loop-i-test.true))
-
-pub overflow_add-i : goal.overflow_add-i
-overflow_add-i c = omega arith
-
-pub loop-i-smaller : goal.loop-i-smaller
-loop-i-smaller c = omega arith
 
 pub loop-i-preserved : goal.loop-i-preserved
 loop-i-preserved c =
@@ -35,12 +29,3 @@ loop-i-preserved c =
           (repeat-more l.i [] (sets_in a.b a.m a.words.now) (in-sets h (omega (arith, c.requires.1))))
           (turned_then (l.invariant.1 k w h) (λ F. set F l.i []) (c.clear_block.ensures.step k w (turned-store (l.invariant.1 k w h)))),
     )
-
-pub shape_of-words : goal.shape_of-words
-shape_of-words c = let p = c.requires.0 in turned-length (c.loop-i.invariant.1 p.k p.width p.store) p.store
-
-pub returns : goal.returns
-returns c =
-    let l = c.loop-i in
-    let all : l.i ≡ c.args.n = omega arith in
-    record { step = rw all at l.invariant.1 }

@@ -6,7 +6,6 @@ use lib.ListN.{length, drop}
 use Rattle.k_tuples.specs.Blocks.{sets_in}
 use Rattle.k_tuples.proofs.Held.{some-held, as-any}
 use Rattle.k_tuples.proofs.Blocks.{in-sets}
-use Rattle.blocks.proofs.Stores.{turned-length}
 use Rattle.blocks.proofs.Raising.{Raising, raise-start, raise-holds, raise-room, raise-more, raise-done}
 use borrow.Author.Rules.{rules}
 use Rattle.blocks.proofs.raise.Goals as goal
@@ -31,8 +30,8 @@ room c = raise-room (here c) (turn c)
 pub overflow_mul-at : goal.overflow_mul-at
 overflow_mul-at c = omega (arith, room (goal.at.overflow_mul-at c).In-loop-i, c.loop-i.invariant.1)
 
-pub overflow_add-end : goal.overflow_add-end
-overflow_add-end c = omega (arith, room (goal.at.overflow_add-end c).In-loop-i, c.loop-i.invariant.1)
+pub overflow_add-at : goal.overflow_add-at
+overflow_add-at c = omega (arith, room (goal.at.overflow_add-at c).In-loop-i, c.loop-i.invariant.1)
 
 pub offset_bounds-words-at : goal.offset_bounds-words-at
 offset_bounds-words-at c = omega (arith, room (goal.at.offset_bounds-words-at c).In-loop-i, c.loop-i.invariant.1)
@@ -43,23 +42,12 @@ slice_bounds-renumber-end c = omega (arith, room (goal.at.slice_bounds-renumber-
 pub renumber-requires : goal.renumber-requires
 renumber-requires c = some-held (as-any (raise-holds (here (goal.at.renumber-requires c).In-loop-i) (turn (goal.at.renumber-requires c).In-loop-i)))
 
-pub overflow_add-i : goal.overflow_add-i
-overflow_add-i c = omega arith
-
-pub loop-i-smaller : goal.loop-i-smaller
-loop-i-smaller c = omega arith
-
 pub loop-i-preserved : goal.loop-i-preserved
 loop-i-preserved c = (
   omega (arith, c.loop-i-test.true),
   search rules,
   λ j w h s. raise-more (c.loop-i.invariant.2 j w h s) (in-sets s c.loop-i-test.true) c.renumber.ensures,
 )
-
-pub shape_of-words : goal.shape_of-words
-shape_of-words c =
-    let p = c.requires in
-    turned-length (raise-done (c.loop-i.invariant.2 p.j p.width p.low p.store) (omega arith)) p.store
 
 pub returns : goal.returns
 returns c = record { step = λ j w h s. raise-done (c.loop-i.invariant.2 j w h s) (omega arith) }

@@ -5,11 +5,11 @@ use Rattle.decision.proofs.Sides.{begun-stand}
 use Rattle.decision.proofs.Finishing.{given-result, given-scratch, given-fits, all-answered}
 use Rattle.decision.proofs.answer_all.Goals as goal
 
-pub begin-refusals-requires : goal.begin-refusals-requires
-begin-refusals-requires c = let s = c.requires in (s.fit.linked, s.fit.few)
+pub begin-answers-requires : goal.begin-answers-requires
+begin-answers-requires c = let s = c.requires in (s.fit.linked, s.fit.few)
 
 pub try_all-requires : goal.try_all-requires
-try_all-requires c = let s = c.requires in (s, begun-stand _ _ _ s.sides s.sized.p s.sized.n c.begin-refusals.ensures)
+try_all-requires c = let s = c.requires in let b = c.begin-answers.ensures in (s, rw b.ks (begun-stand _ _ _ s.sides s.sized.p s.sized.n b.begun))
 
 pub overflow_mul-u : goal.overflow_mul-u
 overflow_mul-u c = omega (arith, given-result c.requires)

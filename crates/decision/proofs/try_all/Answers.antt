@@ -1,6 +1,9 @@
 -- `try_all` meets its contract. Assumes nothing.
+use Prim.Native.Nat.{◌+◌, ◌-◌}
 use native.Mathlib.Omega.{arith}
+use mathlib.Core.Path.{◌≡◌, sym, ◌∙◌}
 use Rattle.decision.proofs.Answering.{tries-start, tries-more, tries-end, tries-none}
+use Rattle.decision.proofs.Numbers.{refusals-length}
 use Rattle.decision.proofs.try_all.Goals as goal
 
 pub loop-k-init : goal.loop-k-init
@@ -9,29 +12,19 @@ loop-k-init c = let s = c.requires in tries-start _ _ s.0 s.1
 pub some_open-requires : goal.some_open-requires
 some_open-requires c = c.loop-k.invariant.given.fit.few
 
-pub shape_of-res-else-some_open : goal.shape_of-res-else-some_open
-shape_of-res-else-some_open c = c.loop-k.invariant.result-long
-
-pub shape_of-scratch-else-some_open : goal.shape_of-scratch-else-some_open
-shape_of-scratch-else-some_open c = c.loop-k.invariant.scratch-long
-
-pub returns-else-some_open : goal.returns-else-some_open
-returns-else-some_open c = tries-none c.loop-k.invariant c.some_open.ensures c.if-some_open.false
-
-pub overflow_add-k : goal.overflow_add-k
-overflow_add-k c = let m = c.loop-k.invariant.given.on.limit<11 in omega arith
+pub returns-then-not-some_open : goal.returns-then-not-some_open
+returns-then-not-some_open c = tries-none c.loop-k.invariant c.some_open.ensures c.if-not-some_open.true
 
 pub try_k-requires : goal.try_k-requires
-try_k-requires c = let i = c.loop-k.invariant in let m = i.given.on.limit<11 in ((i.given, (omega arith, omega arith)), i.done.stand.long)
+try_k-requires c = let i = c.loop-k.invariant in let m = i.given.on.limit<11 in ((i.given, (omega arith, omega arith)), sym (refusals-length _) ∙ i.done.stand.long.0)
 
 pub loop-k-preserved : goal.loop-k-preserved
-loop-k-preserved c = tries-more c.loop-k.invariant c.loop-k-test.true c.try_k.ensures c.try_k.auto.res c.try_k.auto.scratch
+loop-k-preserved c =
+    let e : c.loop-k.k + 1 - 1 ≡ c.loop-k.k = omega arith in
+    rw e (tries-more c.loop-k.invariant (omega arith) c.loop-k-test.true c.try_k.ensures c.try_k.auto.res c.try_k.auto.scratch)
 
-pub shape_of-res : goal.shape_of-res
-shape_of-res c = c.loop-k.invariant.result-long
-
-pub shape_of-scratch : goal.shape_of-scratch
-shape_of-scratch c = c.loop-k.invariant.scratch-long
+pub returns-else-not-some_open : goal.returns-else-not-some_open
+returns-else-not-some_open c = tries-end (tries-more c.loop-k.invariant (omega arith) c.loop-k-test.true c.try_k.ensures c.try_k.auto.res c.try_k.auto.scratch) (omega arith)
 
 pub returns : goal.returns
-returns c = search tries-end
+returns c = tries-end c.loop-k.invariant (omega arith)

@@ -1,32 +1,36 @@
 -- `k_tuples::intersection` meets its contract. Assumes nothing.
-use mathlib.Core.Path.{ap, ◌∙◌}
+use mathlib.Core.Path.{◌≡◌, sym, ap, ◌∙◌}
 use mathlib.Core.Bool.{◌||◌}
 use mathlib.Core.List.{[]}
 use lib.Dec.{eqb}
 use lib.ListN.{length}
 use Rattle.k_tuples.specs.Words.{room_of, grown}
 use Rattle.k_tuples.specs.Held.{set_in}
-use Rattle.k_tuples.specs.Answers.{common_width, no_words, Paired, set_told, common_set, intersect_answer, intersect_words}
+use Rattle.std.specs.Prelude.{Err}
+use borrow.Author.Rules.{rules}
+use Rattle.k_tuples.specs.Answers.{set_on_paper, common_width, no_words, Paired, common_set, intersect_answer, intersect_words}
 use Rattle.k_tuples.proofs.Held.{BecameAny, holds-set, intersect-held, intersected-sets, can-finish}
-use Rattle.k_tuples.proofs.Answers.{has_room, set_told_lem, stops, stops-words, passes, passes-words, length-of, finished-of}
+use Rattle.k_tuples.proofs.Answers.{has_room, set_told, set_told_lem, stops, stops-words, passes, passes-words, length-of, finished-of}
 use Rattle.k_tuples.proofs.intersection.Goals as goal
-use Rattle.k_tuples.proofs.intersection.Goals.{After-intersect_sets-g, Else-no-ne0}
+use Rattle.k_tuples.proofs.intersection.Goals.{After-intersect_sets-g, After-finish, In_ok-check}
 
 -- where nothing is refused
-paired : (c : Else-no-ne0) → let a = c.args in Paired a.k (no_words a.a.now || no_words a.b.now || eqb (length a.out.now) 0) a.a.now a.b.now
-paired c = c.refusal-no.ensures.paired c.if-no-ne0.false
+paired : (c : In_ok-check) → let a = c.args in Paired a.k (no_words a.a.now || no_words a.b.now || eqb (length a.out.now) 0) a.a.now a.b.now
+paired c = c.check.ensures.paired c.in_ok-check.was
 
-pub returns-then-no-ne0-clause-answer : goal.returns-then-no-ne0-clause-answer
+pub returns-in_err-check-clause-answer : goal.returns-in_err-check-clause-answer
 unfolding intersect_answer intersect_words
-returns-then-no-ne0-clause-answer c = let r = c.refusal-no.ensures in stops r c.if-no-ne0.true _
+returns-in_err-check-clause-answer c =
+    let passed : c.from_residual.result ≡ Err c.in_err-check.field-0.0 = search rules in
+    let r = c.check.ensures in ap set_on_paper passed ∙ stops r c.in_err-check.was _
 
-pub returns-then-no-ne0-clause-words : goal.returns-then-no-ne0-clause-words
+pub returns-in_err-check-clause-words : goal.returns-in_err-check-clause-words
 unfolding intersect_answer intersect_words
-returns-then-no-ne0-clause-words c = let r = c.refusal-no.ensures in stops-words r c.if-no-ne0.true _ _ _ _
+returns-in_err-check-clause-words c = let r = c.check.ensures in stops-words r c.in_err-check.was _ _ _ _
 
 pub intersect_sets-g-requires : goal.intersect_sets-g-requires
 intersect_sets-g-requires c =
-    let p = paired (goal.at.intersect_sets-g-requires c).Else-no-ne0 in
+    let p = paired (goal.at.intersect_sets-g-requires c).In_ok-check in
     (has_room _ p, (holds-set p.first, holds-set p.second))
 
 -- what the words have become, whatever their number is
@@ -34,36 +38,47 @@ became : (c : After-intersect_sets-g) →
     let a = c.args in
     BecameAny a.k (common_width (set_in a.k a.a.now) (set_in a.k a.b.now)) [] (common_set a.k a.a.now a.b.now) (length a.out.now) c.intersect_sets-g.new.out c.intersect_sets-g.result
 became c =
-    let p = paired (goal.at.After-intersect_sets-g c).Else-no-ne0 in
+    let p = paired (goal.at.After-intersect_sets-g c).In_ok-check in
     let u = c.intersect_sets-g.ensures in
     intersected-sets (has_room _ p) p.first p.second u.answer u.words
 
 pub finish-requires : goal.finish-requires
 finish-requires c = can-finish (became (goal.at.finish-requires c).After-intersect_sets-g)
 
-pub returns-clause-answer : goal.returns-clause-answer
-unfolding intersect_answer intersect_words
-returns-clause-answer c =
-    let p = paired (goal.at.returns-clause-answer c).Else-no-ne0 in
+-- what is told of the intersection, but for how it grew
+told : (c : After-finish) →
+    let a = c.args in
+    set_told c.finish.result ≡ intersect_answer a.k (length a.out.now) a.a.now a.b.now
+unfolding intersect_answer
+told c =
+    let p = paired (goal.at.After-finish c).In_ok-check in
     let a = c.args in
     let n = length a.out.now in
-    let r = c.refusal-no.ensures in
     let w = common_width (set_in a.k a.a.now) (set_in a.k a.b.now) in
-    let set = common_set a.k a.a.now a.b.now in
     let new = intersect-held p.first p.second in
-    let u = c.intersect_sets-g.ensures in
-    let e = c.finish.ensures in passes r c.if-no-ne0.false _ (c.told_set.ensures ∙ ap set_told (e.answer ∙ u.answer ∙ ap (grown (room_of n) 0) (length-of w set new)) ∙ set_told_lem (room_of n) 0 _)
+    passes c.check.ensures c.in_ok-check.was _ (ap set_told (c.finish.ensures.answer ∙ c.intersect_sets-g.ensures.answer ∙ ap (grown (room_of n) 0) (length-of w (common_set a.k a.a.now a.b.now) new)) ∙ set_told_lem (room_of n) 0 _)
+
+-- and what is written
+written_out : (c : After-finish) →
+    let a = c.args in
+    c.finish.new.set ≡ intersect_words a.k a.a.now a.b.now a.out.now
+unfolding intersect_answer intersect_words
+written_out c =
+    let p = paired (goal.at.After-finish c).In_ok-check in
+    let a = c.args in
+    let new = intersect-held p.first p.second in
+    passes-words c.check.ensures c.in_ok-check.was _ _ _ _ (finished-of 0 a.out.now [] (has_room _ p) new (became (goal.at.After-finish c).After-intersect_sets-g) c.intersect_sets-g.ensures.words c.finish.ensures.words)
+
+pub returns-in_err-finish-clause-answer : goal.returns-in_err-finish-clause-answer
+returns-in_err-finish-clause-answer c =
+    let passed : c.from_residual-in_err-finish.result ≡ Err c.in_err-finish.field-0.0 = search rules in
+    ap set_on_paper passed ∙ ap set_told (sym c.in_err-finish.was) ∙ told (goal.at.returns-in_err-finish-clause-answer c).After-finish
+
+pub returns-in_err-finish-clause-words : goal.returns-in_err-finish-clause-words
+returns-in_err-finish-clause-words c = written_out (goal.at.returns-in_err-finish-clause-words c).After-finish
+
+pub returns-clause-answer : goal.returns-clause-answer
+returns-clause-answer c = ap set_told (sym c.in_ok-finish.was) ∙ told (goal.at.returns-clause-answer c).After-finish
 
 pub returns-clause-words : goal.returns-clause-words
-unfolding intersect_answer intersect_words
-returns-clause-words c =
-    let p = paired (goal.at.returns-clause-words c).Else-no-ne0 in
-    let a = c.args in
-    let n = length a.out.now in
-    let r = c.refusal-no.ensures in
-    let w = common_width (set_in a.k a.a.now) (set_in a.k a.b.now) in
-    let set = common_set a.k a.a.now a.b.now in
-    let new = intersect-held p.first p.second in
-    let u = c.intersect_sets-g.ensures in
-    let e = c.finish.ensures in
-    passes-words r c.if-no-ne0.false _ _ _ _ (finished-of 0 a.out.now [] (has_room _ p) new (became (goal.at.returns-clause-words c).After-intersect_sets-g) u.words e.words)
+returns-clause-words c = written_out (goal.at.returns-clause-words c).After-finish

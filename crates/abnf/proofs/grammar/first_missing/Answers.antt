@@ -8,8 +8,8 @@ loop-k-init c = search misses-start
 pub loop-k-preserved : goal.loop-k-preserved
 loop-k-preserved c = search misses-next
 
-pub returns-else-is_among : goal.returns-else-is_among
-returns-else-is_among c = search misses-here
+pub returns-then-not-is_among : goal.returns-then-not-is_among
+returns-then-not-is_among c = search misses-here
 
 pub returns : goal.returns
 returns c = search misses-end

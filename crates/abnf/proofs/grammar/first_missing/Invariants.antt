@@ -1,11 +1,7 @@
 -- What the loop of `abnf::grammar::first_missing` keeps.
 use Rattle.abnf.proofs.GrammarLaws.{Misses}
 use lib.ListN.{take}
-use Prim.Native.Nat.{◌-◌}
 use Rattle.abnf.proofs.grammar.first_missing.Given as goal
 
 abbrev pub invariant-loop-k : goal.invariant-loop-k
 invariant-loop-k l = Misses (take l.count l.lefts) l.names l.k
-
-abbrev pub decreases-loop-k : goal.decreases-loop-k
-decreases-loop-k l = l.names - l.k

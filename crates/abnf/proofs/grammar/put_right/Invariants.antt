@@ -2,11 +2,7 @@
 use Rattle.abnf.proofs.GrammarLaws.{Rights}
 use mathlib.Core.Path.{◌≡◌}
 use lib.ListN.{length}
-use Prim.Native.Nat.{◌-◌}
 use Rattle.abnf.proofs.grammar.put_right.Given as goal
 
 abbrev pub invariant-loop-i : goal.invariant-loop-i
 invariant-loop-i l = Rights l.text l.names l.l l.items l.initial.numbers l.from l.used l.numbers l.at l.i × (length l.numbers ≡ length l.initial.numbers)
-
-abbrev pub decreases-loop-i : goal.decreases-loop-i
-decreases-loop-i l = length l.items - l.i

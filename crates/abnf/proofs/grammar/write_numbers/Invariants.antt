@@ -2,11 +2,7 @@
 use Rattle.abnf.proofs.GrammarLaws.{Bytes}
 use mathlib.Core.Path.{◌≡◌}
 use lib.ListN.{length}
-use Prim.Native.Nat.{◌-◌}
 use Rattle.abnf.proofs.grammar.write_numbers.Given as goal
 
-abbrev pub invariant-loop-i : goal.invariant-loop-i
-invariant-loop-i l = Bytes l.numbers l.initial.out l.from l.out l.at l.i × (length l.out ≡ length l.initial.out)
-
-abbrev pub decreases-loop-i : goal.decreases-loop-i
-decreases-loop-i l = length l.numbers - l.i
+abbrev pub invariant-loop-v : goal.invariant-loop-v
+invariant-loop-v l = Bytes l.numbers l.initial.out l.from l.out l.at l.v-index × (length l.out ≡ length l.initial.out)

@@ -1,13 +1,9 @@
 -- `machine::step_ended` meets its contract: each `return` is a case of `step`. Assumes nothing.
-use Rattle.abnf_rules.proofs.MachineLaws.{ended-blank, whole-sane, ended-fresh, ended-wrong}
-use borrow.Author.Rules.{rules}
+use Rattle.abnf_rules.proofs.MachineLaws.{ended-blank, ended-fresh, ended-wrong}
 use Rattle.abnf_rules.proofs.machine.step_ended.Goals as goal
 
 pub returns-then-is_blank : goal.returns-then-is_blank
 returns-then-is_blank c = search ended-blank
-
-pub step_fresh-requires : goal.step_fresh-requires
-step_fresh-requires c = (whole-sane _ _ c.requires.0 _ c.if-is_whole.true _ c.is_whole.ensures, search rules)
 
 pub returns-then-is_whole : goal.returns-then-is_whole
 returns-then-is_whole c = search ended-fresh

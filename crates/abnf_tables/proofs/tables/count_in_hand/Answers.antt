@@ -1,18 +1,13 @@
 -- `tables::count_in_hand` meets its contract. Assumes nothing.
 use Rattle.abnf_tables.proofs.TableLaws.{hands_start, hands-mark, hands_more, hands-other, hands_none}
 use Rattle.abnf_tables.proofs.tables.count_in_hand.Goals as goal
+use Rattle.abnf_tables.proofs.tables.count_in_hand.Goals.{then-word-side+then-word-eq1, then-word-side+else-word-eq1, else-word-side}
 
-pub loop-i-init : goal.loop-i-init
-loop-i-init c = search hands_start
+pub loop-word-init : goal.loop-word-init
+loop-word-init c = search hands_start
 
-pub loop-i-preserved-then-word-eq1 : goal.loop-i-preserved-then-word-eq1
-loop-i-preserved-then-word-eq1 c = search hands-mark
-
-pub loop-i-preserved-else-word-eq1 : goal.loop-i-preserved-else-word-eq1
-loop-i-preserved-else-word-eq1 c = search hands_more
-
-pub loop-i-preserved : goal.loop-i-preserved
-loop-i-preserved c = search hands-other
+pub loop-word-preserved : goal.loop-word-preserved
+loop-word-preserved c = elim c.if-word-side.branch [ then-word-side+then-word-eq1 w ↦ rw w.n-is (search hands-mark) | then-word-side+else-word-eq1 w ↦ rw w.n-is (search hands_more) | else-word-side w ↦ rw w.n-is (search hands-other) ]
 
 pub returns : goal.returns
-returns c = search hands_none
+returns c = rw (← c.from.ensures) (search hands_none)

@@ -1,10 +1,6 @@
 -- What the loop of `abnf_tables::tables::count_in_hand` keeps.
 use Rattle.abnf_tables.proofs.TableLaws.{Hands}
-use Prim.Native.Nat.{◌-◌}
 use Rattle.abnf_tables.proofs.tables.count_in_hand.Given as goal
 
-abbrev pub invariant-loop-i : goal.invariant-loop-i
-invariant-loop-i l = Hands l.left l.items l.count l.n l.i
-
-abbrev pub decreases-loop-i : goal.decreases-loop-i
-decreases-loop-i l = l.count - l.i
+abbrev pub invariant-loop-word : goal.invariant-loop-word
+invariant-loop-word l = Hands l.left l.word-items l.n l.word-index

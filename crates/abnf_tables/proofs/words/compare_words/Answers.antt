@@ -1,8 +1,5 @@
 -- `words::compare_words` meets its contract: what is left of the two words compares as the whole does. Assumes nothing.
-use Rattle.abnf_tables.proofs.WordLaws.{compares-start, compares-less, compares-more, compares-none, compares-inside, compares-next, compares-both, compares-first}
-use lib.ListN.{length}
-use native.Mathlib.Omega.{arith}
-use Prim.Native.Nat.{◌<◌}
+use Rattle.abnf_tables.proofs.WordLaws.{compares-start, compares-less, compares-more, compares-none, compares-next, compares-both, compares-first}
 use Rattle.abnf_tables.proofs.words.compare_words.Goals as goal
 
 pub loop-i-init : goal.loop-i-init
@@ -17,14 +14,11 @@ returns-then-y-x c = search compares-more
 pub returns-then-x-eq0 : goal.returns-then-x-eq0
 returns-then-x-eq0 c = search compares-none
 
-pub overflow_add-j : goal.overflow_add-j
-overflow_add-j c = let inside : c.loop-i.j < length c.args.text.now = search compares-inside in omega arith
-
 pub loop-i-preserved : goal.loop-i-preserved
 loop-i-preserved c = search compares-next
 
-pub returns-then-last-eq0 : goal.returns-then-last-eq0
-returns-then-last-eq0 c = search compares-both
+pub returns-then-head_of-eq0 : goal.returns-then-head_of-eq0
+returns-then-head_of-eq0 c = search compares-both
 
 pub returns : goal.returns
 returns c = search compares-first

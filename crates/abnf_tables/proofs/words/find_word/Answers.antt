@@ -5,8 +5,8 @@ use Rattle.abnf_tables.proofs.words.find_word.Goals as goal
 pub loop-k-init : goal.loop-k-init
 loop-k-init c = search finds-start
 
-pub returns-then-order-eq1-clause-finds : goal.returns-then-order-eq1-clause-finds
-returns-then-order-eq1-clause-finds c = search finds-here
+pub returns-then-is_eq-clause-finds : goal.returns-then-is_eq-clause-finds
+returns-then-is_eq-clause-finds c = search finds-here
 
 pub loop-k-preserved : goal.loop-k-preserved
 loop-k-preserved c = search finds-next

@@ -1,11 +1,6 @@
 -- What the loop of `abnf_tables::words::find_word` keeps.
 use Rattle.abnf_tables.proofs.WordLaws.{Finds}
-use lib.ListN.{length}
-use Prim.Native.Nat.{◌-◌}
 use Rattle.abnf_tables.proofs.words.find_word.Given as goal
 
 abbrev pub invariant-loop-k : goal.invariant-loop-k
 invariant-loop-k l = Finds l.text l.quoted l.from l.places l.k
-
-abbrev pub decreases-loop-k : goal.decreases-loop-k
-decreases-loop-k l = length l.places - l.k

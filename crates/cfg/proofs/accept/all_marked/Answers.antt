@@ -1,29 +1,26 @@
 -- `accept::all_marked` meets its contract: the invariant, `Sees`, says that the answer hangs on the symbols that are left.
 -- Assumes nothing.
-use Rattle.cfg.proofs.Rounds.{sees-start, sees-done, terminal-fails, terminal-passes, nonterminal-fails, nonterminal-passes}
-use Rattle.cfg.proofs.Cursor.{number_small}
-use native.Mathlib.Omega.{arith}
+use Rattle.cfg.proofs.Rounds.{sees-done, terminal-looked, nonterminal-looked, look_fails, look_passes}
 use Rattle.cfg.proofs.accept.all_marked.Goals as goal
-use Rattle.cfg.proofs.accept.all_marked.Goals.{then-code-eq1+else-not-free, else-code-eq1+else-not-marks-number}
+use Rattle.cfg.proofs.accept.all_marked.Goals.{then-code-eq1, else-code-eq1}
 
-pub loop-j-init : goal.loop-j-init
-loop-j-init c = search sees-start
+pub returns-then-not-marked : goal.returns-then-not-marked
+returns-then-not-marked c =
+    let inv = c.loop-code.invariant in
+    let here = c.loop-code-test.true in
+    elim c.if-code-eq1.branch [
+      | then-code-eq1 w ↦ look_fails _ _ _ _ _ inv here _ (terminal-looked _ _ _ _ _ inv here _ w.if-code-eq1.true w.marked-is) c.if-not-marked.true
+      | else-code-eq1 w ↦ look_fails _ _ _ _ _ inv here _ (nonterminal-looked _ _ _ _ _ inv here _ w.if-code-eq1.false _ w.from.ensures w.marked-is) c.if-not-marked.true
+    ]
 
-pub overflow_cast-number : goal.overflow_cast-number
-overflow_cast-number c = omega (arith, c.type_inv.right c.loop-j.j)
-
-pub returns-then-not-free : goal.returns-then-not-free
-returns-then-not-free c = search terminal-fails
-
-pub bounds-marks-number : goal.bounds-marks-number
-bounds-marks-number c = search number_small
-
-pub returns-then-not-marks-number : goal.returns-then-not-marks-number
-returns-then-not-marks-number c = search nonterminal-fails
-
-pub loop-j-preserved : goal.loop-j-preserved
-loop-j-preserved c =
-    elim c.if-code-eq1.branch [ then-code-eq1+else-not-free w ↦ search terminal-passes | else-code-eq1+else-not-marks-number w ↦ search nonterminal-passes ]
+pub loop-code-preserved : goal.loop-code-preserved
+loop-code-preserved c =
+    let inv = c.loop-code.invariant in
+    let here = c.loop-code-test.true in
+    elim c.if-code-eq1.branch [
+      | then-code-eq1 w ↦ look_passes _ _ _ _ _ inv here _ (terminal-looked _ _ _ _ _ inv here _ w.if-code-eq1.true w.marked-is) c.if-not-marked.false
+      | else-code-eq1 w ↦ look_passes _ _ _ _ _ inv here _ (nonterminal-looked _ _ _ _ _ inv here _ w.if-code-eq1.false _ w.from.ensures w.marked-is) c.if-not-marked.false
+    ]
 
 pub returns : goal.returns
 returns c = search sees-done

@@ -1,12 +1,8 @@
 -- What the loop of `cfg::accept::left_recursive` keeps.
 use Rattle.cfg.specs.Corners.{comes_back}
 use Rattle.cfg.proofs.Search.{Searched}
-use Rattle.cfg.specs.Written.{productions_of}
-use Prim.Native.Nat.{◌-◌}
+use Rattle.cfg.specs.Productions.{productions_in}
 use Rattle.cfg.proofs.accept.left_recursive.Given as goal
 
 abbrev pub invariant-loop-a : goal.invariant-loop-a
-invariant-loop-a l = Searched l.n (comes_back l.nullable (productions_of l.p l.words) l.n) l.a
-
-abbrev pub decreases-loop-a : goal.decreases-loop-a
-decreases-loop-a l = l.n - l.a
+invariant-loop-a l = Searched l.n (comes_back l.nullable (productions_in l.ps) l.n) l.a

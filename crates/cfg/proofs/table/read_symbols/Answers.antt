@@ -1,23 +1,16 @@
 -- `table::read_symbols` meets its contract: the invariant, `Reads`, says that what is left to read completes the whole.
 -- Assumes nothing.
-use Rattle.cfg.proofs.Field.{refused-uses}
-use Rattle.cfg.proofs.Symbols.{symbols-refused, symbols-more, symbols-start, symbols-done}
+use Rattle.std.proofs.Common.{◌≡◌, Err, rules}
+use Rattle.cfg.proofs.Symbols.{symbols-refused, symbols-more, symbols-done}
 use Rattle.cfg.proofs.table.read_symbols.Goals as goal
 
-pub loop-i-init : goal.loop-i-init
-loop-i-init c = search symbols-start
-
-pub returns-in_default-clause-reads : goal.returns-in_default-clause-reads
-returns-in_default-clause-reads c = search (symbols-refused, refused-uses)
-
-pub returns-in_default-clause-uses : goal.returns-in_default-clause-uses
-returns-in_default-clause-uses c = search (symbols-refused, refused-uses)
+pub returns-in_err-read-clause-reads : goal.returns-in_err-read-clause-reads
+returns-in_err-read-clause-reads c =
+    let e : c.from_residual.result ≡ Err c.in_err-read.field-0.0 = search rules in
+    rw e (symbols-refused _ _ _ _ _ _ _ _ _ c.loop-i.invariant c.loop-i-test.true _ c.in_err-read.ensures)
 
 pub loop-i-preserved : goal.loop-i-preserved
-loop-i-preserved c = search symbols-more
+loop-i-preserved c = search (symbols-more, c.in_ok-read.ensures, c.from.ensures)
 
 pub returns-clause-reads : goal.returns-clause-reads
 returns-clause-reads c = search symbols-done
-
-pub returns-clause-uses : goal.returns-clause-uses
-returns-clause-uses c = search symbols-done

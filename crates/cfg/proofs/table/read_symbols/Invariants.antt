@@ -2,11 +2,8 @@
 use Rattle.cfg.proofs.Symbols.{Reads}
 use Rattle.cfg.specs.Table.{symbols}
 use lib.ListN.{length, take}
-use Prim.Native.Nat.{◌-◌}
 use Rattle.cfg.proofs.table.read_symbols.Given as goal
 
 abbrev pub invariant-loop-i : goal.invariant-loop-i
-invariant-loop-i l = Reads l.table l.n l.t (symbols l.table l.n l.t l.count (take l.used l.initial.words) l.at) (length l.initial.words) l.end l.words l.i l.next_at
-
-abbrev pub decreases-loop-i : goal.decreases-loop-i
-decreases-loop-i l = l.end - l.i
+invariant-loop-i l =
+    Reads l.table l.shape.n l.shape.t (symbols l.table l.shape.n l.shape.t l.count (take l.used l.initial.words) l.at) (length l.initial.words) l.end l.words l.i l.next

@@ -1,34 +1,28 @@
 -- `table::read_table` meets its contract: each `return` is a case of `read_table`.
 -- Assumes nothing.
-use borrow.Author.Rules.{rules}
-use Rattle.cfg.proofs.Whole.{inside, header_refused, productions-refused, table-read, table-longer, table-sound}
+use Rattle.std.proofs.Common.{◌≡◌, Err, rules, arith}
+use Rattle.cfg.proofs.Whole.{header_refused, productions-refused, table-read, table-longer, table-sound}
 use Rattle.cfg.proofs.table.read_table.Goals as goal
 
-pub returns-in_default-clause-reads : goal.returns-in_default-clause-reads
-returns-in_default-clause-reads c = search header_refused
+pub returns-in_err-header-clause-reads : goal.returns-in_err-header-clause-reads
+returns-in_err-header-clause-reads c =
+    let e : c.from_residual.result ≡ Err c.in_err-header.field-0.0 = search rules in
+    rw e (header_refused _ _ c.in_err-header.ensures.reads)
 
-pub returns-in_default-clause-sound : goal.returns-in_default-clause-sound
-returns-in_default-clause-sound c = tt
+pub returns-in_err-rest-clause-reads : goal.returns-in_err-rest-clause-reads
+returns-in_err-rest-clause-reads c =
+    let e : c.from_residual-in_err-rest.result ≡ Err c.in_err-rest.field-0.0 = search rules in
+    rw e (productions-refused _ _ _ c.in_ok-header.ensures.reads _ c.in_err-rest.ensures.reads)
 
-pub read_productions-rest-requires : goal.read_productions-rest-requires
-read_productions-rest-requires c =
-    let limits = inside c.in-Header.is c.read_header-first.ensures.inside in
-    (limits.0, limits.2, limits.3, search rules)
+pub returns-then-rest-table-clause-reads : goal.returns-then-rest-table-clause-reads
+returns-then-rest-table-clause-reads c =
+    table-longer _ _ _ c.in_ok-header.ensures.reads _ _ _ c.in_ok-rest.ensures.reads (search rules)
 
-pub returns-in_default-rest-clause-reads : goal.returns-in_default-rest-clause-reads
-returns-in_default-rest-clause-reads c = search productions-refused
+pub returns-clause-reads : goal.returns-clause-reads
+returns-clause-reads c =
+    table-read _ _ _ c.in_ok-header.ensures.reads _ _ _ c.in_ok-rest.ensures.reads (search rules)
 
-pub returns-in_default-rest-clause-sound : goal.returns-in_default-rest-clause-sound
-returns-in_default-rest-clause-sound c = tt
-
-pub returns-then-end-table-clause-reads : goal.returns-then-end-table-clause-reads
-returns-then-end-table-clause-reads c = search table-read
-
-pub returns-then-end-table-clause-sound : goal.returns-then-end-table-clause-sound
-returns-then-end-table-clause-sound c = search table-sound
-
-pub returns-else-end-table-clause-reads : goal.returns-else-end-table-clause-reads
-returns-else-end-table-clause-reads c = search table-longer
-
-pub returns-else-end-table-clause-sound : goal.returns-else-end-table-clause-sound
-returns-else-end-table-clause-sound c = tt
+pub returns-clause-sound : goal.returns-clause-sound
+returns-clause-sound c =
+    let limits = c.in_ok-header.ensures.inside in
+    table-sound _ _ _ _ _ limits.0 limits.1 limits.3 _ _ _ c.in_ok-rest.ensures.reads c.in_ok-rest.ensures.uses.1 (omega arith)

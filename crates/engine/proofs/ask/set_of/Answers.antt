@@ -1,43 +1,31 @@
 -- `engine::ask::set_of` meets its contract. Assumes nothing.
-use Prim.Native.Nat.{◌+◌, ◌*◌}
+use Prim.Native.Nat.{◌+◌, ◌*◌, ◌≤◌}
 use lib.ListN.{length}
 use native.Mathlib.Omega.{arith}
-use Rattle.engine.proofs.Asking.{There, known-there, none-there, part-there, Inside, inside}
+use Rattle.engine.proofs.Asking.{placed-inside, none-there, part-there}
 use Rattle.engine.proofs.ask.set_of.Goals as goal
-use Rattle.engine.proofs.ask.set_of.Goals.{After-kind_start, Then-there_is}
+use Rattle.engine.proofs.ask.set_of.Goals.{In-Some}
 
-is-there : (c : Then-there_is) → let a = c.args in There (length a.words.now) a.kind a.number a.n a.p a.q a.c
-is-there c = search known-there
+inside : (c : In-Some) → let end = c.in-Some.at + (2 * c.args.c + 1) in (end ≤ length c.args.words.now) × (end ≤ 9966336)
+inside c = placed-inside _ _ _ _ _ _ _ c.in-Some.ensures
 
-is-inside : (c : After-kind_start) → let a = c.args in Inside (c.kind_start.result + a.number) (2 * a.c + 1) (length a.words.now)
-is-inside c = inside (is-there (goal.at.After-kind_start c).Then-there_is) c.kind_start.ensures
+pub overflow_mul-result : goal.overflow_mul-result
+overflow_mul-result c = let i = inside (goal.at.overflow_mul-result c).In-Some in omega arith
 
-pub returns-else-there_is : goal.returns-else-there_is
-returns-else-there_is c = search none-there
+pub overflow_add-result : goal.overflow_add-result
+overflow_add-result c = let i = inside (goal.at.overflow_add-result c).In-Some in omega arith
 
-pub overflow_mul-size : goal.overflow_mul-size
-overflow_mul-size c = let t = is-there (goal.at.overflow_mul-size c).Then-there_is in omega arith
-
-pub overflow_add-size : goal.overflow_add-size
-overflow_add-size c = let t = is-there (goal.at.overflow_add-size c).Then-there_is in omega arith
-
-pub kind_start-requires : goal.kind_start-requires
-kind_start-requires c = let t = is-there (goal.at.kind_start-requires c).Then-there_is in (t.inside.n-most, t.inside.p-most)
-
-pub overflow_add-at : goal.overflow_add-at
-overflow_add-at c = let i = is-inside (goal.at.overflow_add-at c).After-kind_start in omega arith
-
-pub overflow_mul-at : goal.overflow_mul-at
-overflow_mul-at c = let i = is-inside (goal.at.overflow_mul-at c).After-kind_start in omega arith
-
-pub overflow_add-end : goal.overflow_add-end
-overflow_add-end c = let i = is-inside (goal.at.overflow_add-end c).After-kind_start in omega arith
+pub overflow_add-result-in-Some : goal.overflow_add-result-in-Some
+overflow_add-result-in-Some c = let i = inside (goal.at.overflow_add-result-in-Some c).In-Some in omega arith
 
 pub offset_bounds-words-at : goal.offset_bounds-words-at
-offset_bounds-words-at c = let i = is-inside (goal.at.offset_bounds-words-at c).After-kind_start in omega arith
+offset_bounds-words-at c = let i = inside (goal.at.offset_bounds-words-at c).In-Some in omega arith
 
-pub slice_bounds-result-end-2 : goal.slice_bounds-result-end-2
-slice_bounds-result-end-2 c = let i = is-inside (goal.at.slice_bounds-result-end-2 c).After-kind_start in omega arith
+pub slice_bounds-result-end : goal.slice_bounds-result-end
+slice_bounds-result-end c = let i = inside (goal.at.slice_bounds-result-end c).In-Some in omega arith
 
-pub returns : goal.returns
-returns c = search part-there
+pub returns-in-Some : goal.returns-in-Some
+returns-in-Some c = part-there _ _ _ _ _ _ _ c.in-Some.ensures
+
+pub returns-in-None : goal.returns-in-None
+returns-in-None c = none-there _ _ _ _ _ _ _ c.in-None.ensures

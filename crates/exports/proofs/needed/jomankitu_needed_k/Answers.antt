@@ -1,13 +1,10 @@
 -- `exports::needed::jomankitu_needed_k` meets its contract. Assumes nothing.
-use Rattle.exports.proofs.Needing.{refusals-long, ks-long, needed-short, needed-told}
-use borrow.Author.Rules.{rules}
+use mathlib.Core.Path.{◌∙◌}
+use Rattle.exports.proofs.Needing.{returned-number, needed-short, needed-told}
 use Rattle.exports.proofs.needed.jomankitu_needed_k.Goals as goal
 
 pub returns-then-answer-lt258 : goal.returns-then-answer-lt258
-returns-then-answer-lt258 c = search needed-short
-
-pub put_record-requires : goal.put_record-requires
-put_record-requires c = let p = c.needed_k-a-2.ensures in (search rules, (refusals-long _ _ _ _ _ p, ks-long _ _ _ _ _ p))
+returns-then-answer-lt258 c = needed-short _ _ c.if-answer-lt258.true c.needed_k-a.ensures c.needed_k-a.auto.res c.needed_k-a.auto.scratch (c.refusal_number.ensures ∙ returned-number c.needed_k-a.result)
 
 pub returns : goal.returns
-returns c = search needed-told
+returns c = needed-told c.if-answer-lt258.false c.needed_k-a-2.ensures c.put_record.ensures (c.refusal_number-2.ensures ∙ returned-number c.needed_k-a-2.result)

@@ -3,4 +3,4 @@ use Rattle.exports.proofs.Telling.{set-left}
 use Rattle.exports.proofs.sets.jomankitu_intersection.Goals as goal
 
 pub returns : goal.returns
-returns c = let e = c.intersection-s.ensures in set-left c.set_number.ensures e.answer e.words
+returns c = let e = c.intersection.ensures in set-left c.intersection.result c.refusal_number.ensures e.answer e.words

@@ -3,4 +3,4 @@ use Rattle.exports.proofs.Telling.{set-left}
 use Rattle.exports.proofs.sets.jomankitu_join_sets.Goals as goal
 
 pub returns : goal.returns
-returns c = let e = c.k_concat-s.ensures in set-left c.set_number.ensures e.answer e.words
+returns c = let e = c.k_concat.ensures in set-left c.k_concat.result c.refusal_number.ensures e.answer e.words

@@ -1,10 +1,6 @@
 -- What the loop of `first::due::clear_due` keeps.
-use Prim.Native.Nat.{◌-◌}
 use Rattle.first.proofs.Sweeping.{Blanking}
 use Rattle.first.proofs.due.clear_due.Given as goal
 
 abbrev pub invariant-loop-i : goal.invariant-loop-i
 invariant-loop-i l = Blanking l.u l.k l.due l.initial.scratch l.i l.scratch
-
-abbrev pub decreases-loop-i : goal.decreases-loop-i
-decreases-loop-i l = l.n - l.i

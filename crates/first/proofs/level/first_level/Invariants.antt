@@ -5,8 +5,5 @@ use Rattle.first.specs.Due.{Known}
 use Rattle.first.proofs.Levels.{Climbing}
 use Rattle.first.proofs.level.first_level.Given as goal
 
-abbrev pub invariant-loop-left : goal.invariant-loop-left
-invariant-loop-left l = Climbing l.u l.at l.k l.words l.initial.res l.initial.scratch l.left l.done l.res l.scratch × (Known l.u l.k l.words l.due l.res l.scratch × (length l.same ≡ 128))
-
-abbrev pub decreases-loop-left : goal.decreases-loop-left
-decreases-loop-left l = l.left
+abbrev pub invariant-loop-done : goal.invariant-loop-done
+invariant-loop-done l = Climbing l.u l.at l.k l.words l.initial.res l.initial.scratch l.done l.res l.scratch × (Known l.u l.k l.words l.due l.res l.scratch × (length l.same ≡ 128))

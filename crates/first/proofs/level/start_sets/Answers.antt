@@ -7,7 +7,7 @@ use Rattle.k_tuple.specs.Strings.{eps}
 use Rattle.k_tuples.specs.States.{State}
 use Rattle.k_tuples.proofs.Blocks.{in-sets}
 use Rattle.blocks.specs.Stores.{Turned}
-use Rattle.blocks.proofs.Stores.{as-turned, turned-store, turned_then, turned-length, repeat-more}
+use Rattle.blocks.proofs.Stores.{as-turned, turned-store, turned_then, repeat-more}
 use Rattle.first.specs.Steps.{result_sets}
 use Rattle.first.proofs.Spelling.{eps-fits}
 use Rattle.first.proofs.level.start_sets.Goals as goal
@@ -31,12 +31,6 @@ put_single-requires c =
       (omega (arith, c.requires.1.1, c.loop-i-test.true), c.requires.0.1),
     )
 
-pub overflow_add-i : goal.overflow_add-i
-overflow_add-i c = omega arith
-
-pub loop-i-smaller : goal.loop-i-smaller
-loop-i-smaller c = omega arith
-
 pub loop-i-preserved : goal.loop-i-preserved
 loop-i-preserved c =
     let l = c.loop-i in
@@ -49,9 +43,6 @@ loop-i-preserved c =
           (turned_then l.invariant.1 (λ F. set F l.i (eps ∷ []))
           (put.ensures.step u.w eps (turned-store l.invariant.1) c.eps.ensures (eps-fits u.w bounds.0 bounds.1 1 (omega arith)))),
     )
-
-pub shape_of-res : goal.shape_of-res
-shape_of-res c = turned-length c.loop-i.invariant.1 c.requires.0.0
 
 pub returns : goal.returns
 returns c =

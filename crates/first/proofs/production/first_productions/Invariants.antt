@@ -1,10 +1,6 @@
 -- What the loop of `first::production::first_productions` keeps.
-use Prim.Native.Nat.{◌-◌}
 use Rattle.first.proofs.Products.{Producing}
 use Rattle.first.proofs.production.first_productions.Given as goal
 
 abbrev pub invariant-loop-i : goal.invariant-loop-i
 invariant-loop-i l = Producing l.u l.k l.words l.initial.res l.initial.scratch l.i l.place l.res l.scratch
-
-abbrev pub decreases-loop-i : goal.decreases-loop-i
-decreases-loop-i l = l.u.p - l.i

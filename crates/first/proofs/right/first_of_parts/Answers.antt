@@ -1,10 +1,10 @@
 -- `first::right::first_of_parts` meets its contract. Assumes nothing.
-use mathlib.Core.Path.{◌≡◌, sym, subst}
+use mathlib.Core.Path.{◌≡◌, subst}
 use mathlib.Core.List.{List}
 use Prim.Native.Nat.{ℕ, ◌-◌}
 use native.Mathlib.Omega.{arith}
 use lib.ListN.{length, take, drop, length-take, length-drop}
-use lib.Seq.{take_all, length-take-le}
+use lib.Seq.{take_all}
 use Rattle.first.specs.Codes.{part_of, part_length}
 use Rattle.first.specs.Steps.{PartIn}
 use Rattle.first.proofs.Codes.{part_in, symbols-from}
@@ -14,9 +14,6 @@ use Rattle.first.proofs.right.first_of_parts.Goals as goal
 -- what `&right[end..]` is
 behind : (end : ℕ) (right : List ℕ) → take (length right - end) (drop end right) ≡ drop end right
 behind end right = take_all (length right - end) (drop end right) (simp length-drop (omega arith))
-
-pub slice_bounds-put_codes-end : goal.slice_bounds-put_codes-end
-slice_bounds-put_codes-end c = let end = c.part_end-end in sym (length-take-le end.result c.args.right.now end.ensures.1.1)
 
 pub put_codes-requires : goal.put_codes-requires
 put_codes-requires c =

@@ -1,13 +1,9 @@
 -- `first::right::join_codes` meets its contract. Assumes nothing.
 use mathlib.Core.Path.{sym, ap, ◌∙◌, subst}
-use native.Mathlib.Omega.{arith}
 use Rattle.first_theory.specs.First.{Part, single}
 use Rattle.first.specs.Steps.{InWork, PartIn, part_join}
 use Rattle.first.proofs.Codes.{one-even, run_of}
 use Rattle.first.proofs.right.join_codes.Goals as goal
-
-pub bounds-part-0 : goal.bounds-part-0
-bounds-part-0 c = omega (arith, c.requires.1.0)
 
 pub join_nonterminal-requires : goal.join_nonterminal-requires
 join_nonterminal-requires c =

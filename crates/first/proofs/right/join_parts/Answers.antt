@@ -2,21 +2,15 @@
 use mathlib.Core.Path.{◌≡◌, sym, subst, ◌∙◌}
 use Prim.Native.Nat.{ℕ, ◌-◌}
 use native.Mathlib.Omega.{arith}
-use lib.ListN.{length, take, drop, length-take, length-drop}
-use Rattle.blocks.proofs.Stores.{turned-length}
+use lib.ListN.{take, drop, length-take, length-drop}
 use Rattle.first.specs.Codes.{part_of, part_length}
 use Rattle.first.specs.Steps.{Ready, PartIn}
+use Rattle.std.specs.Prelude.{Err}
+use borrow.Author.Rules.{rules}
 use Rattle.first.proofs.Codes.{part_in}
 use Rattle.first.proofs.Walk.{placed-ready, walk_start, walk_end, walk-stop, walk-over, walk_more}
 use Rattle.first.proofs.right.join_parts.Goals as goal
 use Rattle.first.proofs.right.join_parts.Goals.{At-loop-j}
-
--- as long as at entry
-result-length : (c : At-loop-j) → length c.loop-j.res ≡ length c.args.res.now
-result-length c = turned-length c.loop-j.invariant.placed.held c.requires.0.0.result-store
-
-scratch-length : (c : At-loop-j) → length c.loop-j.scratch ≡ length c.args.scratch.now
-scratch-length c = turned-length c.loop-j.invariant.placed.worked c.requires.0.0.scratch-store
 
 -- the buffers hold sets in every turn
 ready : (c : At-loop-j) → let a = c.args in Ready a.u a.k c.loop-j.res c.loop-j.scratch
@@ -29,25 +23,10 @@ pub is_complete-requires : goal.is_complete-requires
 is_complete-requires c =
     (record { k = c.args.k; width = c.args.u.w; store = (ready (goal.at.is_complete-requires c).At-loop-j).result-store }, c.requires.0.1.within)
 
-pub shape_of-res-then-is_complete : goal.shape_of-res-then-is_complete
-shape_of-res-then-is_complete c = result-length (goal.at.shape_of-res-then-is_complete c).At-loop-j
-
-pub shape_of-scratch-then-is_complete : goal.shape_of-scratch-then-is_complete
-shape_of-scratch-then-is_complete c = scratch-length (goal.at.shape_of-scratch-then-is_complete c).At-loop-j
-
 pub returns-then-is_complete : goal.returns-then-is_complete
 returns-then-is_complete c =
     walk-stop c.loop-j.invariant c.requires.0.0 c.requires.0.1
     (sym (c.is_complete.ensures.step c.args.u.w (ready (goal.at.returns-then-is_complete c).At-loop-j).result-store) ∙ c.if-is_complete.true)
-
-pub slice_bounds-join_part-count : goal.slice_bounds-join_part-count
-slice_bounds-join_part-count c = omega (arith, c.part_end-end.ensures)
-
-pub slice_bounds-join_part-start : goal.slice_bounds-join_part-start
-slice_bounds-join_part-start c = omega (arith, c.part_end-end.ensures)
-
-pub slice_bounds-join_part-end : goal.slice_bounds-join_part-end
-slice_bounds-join_part-end c = omega (arith, c.part_end-end.ensures)
 
 pub join_part-requires : goal.join_part-requires
 join_part-requires c =
@@ -62,30 +41,16 @@ join_part-requires c =
       ),
     )
 
-pub shape_of-res-then-join_part : goal.shape_of-res-then-join_part
-shape_of-res-then-join_part c = c.join_part.auto.res ∙ result-length (goal.at.shape_of-res-then-join_part c).At-loop-j
-
-pub shape_of-scratch-then-join_part : goal.shape_of-scratch-then-join_part
-shape_of-scratch-then-join_part c = c.join_part.auto.scratch ∙ scratch-length (goal.at.shape_of-scratch-then-join_part c).At-loop-j
-
-pub returns-then-join_part : goal.returns-then-join_part
-returns-then-join_part c =
+pub returns-in_err-join_part : goal.returns-in_err-join_part
+returns-in_err-join_part c =
     let end = c.part_end-end in
-    walk-over c.loop-j.invariant c.requires.0.0 c.requires.0.1 c.loop-j-test.true end.result end.ensures.0 c.join_part.ensures c.if-join_part.true
-
-pub loop-j-smaller : goal.loop-j-smaller
-loop-j-smaller c = omega (arith, c.part_end-end.ensures)
+    let e : c.from_residual.result ≡ Err c.in_err-join_part.field-0.0 = search rules in
+    rw e (walk-over c.loop-j.invariant c.requires.0.0 c.requires.0.1 c.loop-j-test.true end.result end.ensures.0 c.in_err-join_part.ensures)
 
 pub loop-j-preserved : goal.loop-j-preserved
 loop-j-preserved c =
     let end = c.part_end-end in
-    walk_more c.loop-j.invariant c.requires.0.0 c.requires.0.1 c.loop-j-test.true end.result end.ensures.0 c.join_part.ensures c.if-join_part.false end.ensures.1.1
-
-pub shape_of-res : goal.shape_of-res
-shape_of-res c = result-length (goal.at.shape_of-res c).At-loop-j
-
-pub shape_of-scratch : goal.shape_of-scratch
-shape_of-scratch c = scratch-length (goal.at.shape_of-scratch c).At-loop-j
+    walk_more c.loop-j.invariant c.requires.0.0 c.requires.0.1 c.loop-j-test.true end.result end.ensures.0 c.in_ok-join_part.ensures end.ensures.1.1
 
 pub returns : goal.returns
 returns c = walk_end c.loop-j.invariant c.loop-j-test.false

@@ -1,15 +1,12 @@
 -- `first::right::join_run` meets its contract. Assumes nothing.
 use mathlib.Core.Path.{ap, ◌∙◌}
 use mathlib.Core.List.{◌∷◌, [], map}
-use Prim.Native.Nat.{◌+◌, ◌*◌, ◌≤◌, ◌<◌}
-use native.Mathlib.Omega.{arith}
-use lib.ListN.{length, take}
+use lib.ListN.{take}
 use Rattle.k_tuple.specs.Packed.{reads}
 use Rattle.k_tuple.proofs.Closed.{reads-packed}
 use Rattle.k_tuples.specs.States.{set_of}
 use Rattle.k_tuples.specs.Held.{Fits, Holds}
-use Rattle.k_tuples.proofs.Blocks.{in-sets, part_room, part-holds}
-use Rattle.blocks.proofs.Stores.{only-holds}
+use Rattle.blocks.proofs.Stores.{block_room, block-holds, only-holds}
 use Rattle.first_theory.specs.Compute.{str}
 use Rattle.first.specs.Codes.{half}
 use Rattle.first.specs.Steps.{result_sets}
@@ -17,12 +14,6 @@ use Rattle.first.proofs.Codes.{run-slots}
 use Rattle.first.proofs.Spelling.{run_fits}
 use Rattle.first.proofs.right.join_run.Goals as goal
 use Rattle.first.proofs.right.join_run.Goals.{After-single-one, Start}
-
-at_in : (c : Start) → c.args.at < length (result_sets c.args.u c.args.res.now)
-at_in c = in-sets c.requires.0.0.result-store c.requires.0.1.within
-
-room : (c : Start) → let a = c.args in let b = a.u.b in a.at * b + b ≤ length a.res.now
-room c = part_room c.requires.0.0.result-store.stored c.args.at (at_in c)
 
 -- the run's string is a member of a set at k
 fits : (s : Start) → Fits s.args.k s.args.u.w (str (take s.args.k (map half s.args.part.now)))
@@ -38,11 +29,8 @@ one c =
     let a = c.args in
     only-holds a.u.w (str (take a.k (map half a.part.now))) c.single-one.ensures c.run_string.ensures (fits (goal.at.After-single-one c).Start)
 
-pub overflow_mul-x : goal.overflow_mul-x
-overflow_mul-x c = omega (arith, room (goal.at.overflow_mul-x c).Start)
-
-pub overflow_add-x_end : goal.overflow_add-x_end
-overflow_add-x_end c = omega (arith, room (goal.at.overflow_add-x_end c).Start)
+pub block-x-requires : goal.block-x-requires
+block-x-requires c = block_room c.requires.0.0.result-store c.requires.0.1.within
 
 pub run_string-requires : goal.run_string-requires
 run_string-requires c =
@@ -55,23 +43,17 @@ single-one-requires c =
     let z = str (take a.k (map half a.part.now)) in
     record { width = a.u.w; str = z; is = ap reads c.run_string.ensures ∙ reads-packed a.u.w z (fits (goal.at.single-one-requires c).Start).well }
 
-pub offset_bounds-res-x : goal.offset_bounds-res-x
-offset_bounds-res-x c = omega (arith, room (goal.at.offset_bounds-res-x c).Start)
-
-pub slice_bounds-join_into-end : goal.slice_bounds-join_into-end
-slice_bounds-join_into-end c = omega (arith, room (goal.at.slice_bounds-join_into-end c).Start)
-
 pub join_into-requires : goal.join_into-requires
 join_into-requires c =
     let ready = c.requires.0.0 in (
       record {
         width = c.args.u.w;
-        x = _;
+        x = set_of (result_sets c.args.u c.args.res.now) c.args.at;
         y = _;
         some = ready.least;
         short = ready.most;
         store = ready.scratch-store;
-        first = part-holds ready.result-store.stored c.args.at (at_in (goal.at.join_into-requires c).Start);
+        first = rw c.block-x.ensures (block-holds ready.result-store c.requires.0.1.within);
         second = one (goal.at.join_into-requires c).After-single-one;
       },
       ready.work,
@@ -82,4 +64,4 @@ returns c =
     let a = c.args in
     let ready = c.requires.0.0 in
     c.join_into.ensures.step a.u.w (set_of (result_sets a.u a.res.now) a.at) (str (take a.k (map half a.part.now)) ∷ [])
-    ready.scratch-store (part-holds ready.result-store.stored a.at (at_in (goal.at.returns c).Start)) (one (goal.at.returns c).After-single-one)
+    ready.scratch-store (rw c.block-x.ensures (block-holds ready.result-store c.requires.0.1.within)) (one (goal.at.returns c).After-single-one)

@@ -3,35 +3,14 @@ use native.Mathlib.Omega.{arith}
 use Rattle.first.proofs.Codes.{run_none, run-even, run-odd, part-even, part-odd}
 use Rattle.first.proofs.right.part_end.Goals as goal
 
-pub overflow_add-end : goal.overflow_add-end
-overflow_add-end c = omega arith
-
-pub offset_bounds-right-j : goal.offset_bounds-right-j
-offset_bounds-right-j c = omega arith
-
-pub bounds-right-j : goal.bounds-right-j
-bounds-right-j c = omega arith
-
 pub returns-then-right-j-eq0 : goal.returns-then-right-j-eq0
 returns-then-right-j-eq0 c = (omega (arith, part-even c.args.right.now c.args.j c.requires c.if-right-j-eq0.true), (omega arith, omega (arith, c.requires)))
 
 pub loop-end-init : goal.loop-end-init
 loop-end-init c = (omega (arith, part-odd c.args.right.now c.args.j c.requires c.if-right-j-eq0.false), omega arith, omega (arith, c.requires))
 
-pub offset_bounds-right-end : goal.offset_bounds-right-end
-offset_bounds-right-end c = omega arith
-
-pub bounds-right-end : goal.bounds-right-end
-bounds-right-end c = omega arith
-
 pub returns-then-right-end-eq0 : goal.returns-then-right-end-eq0
 returns-then-right-end-eq0 c = (omega (arith, run-even c.args.right.now c.loop-end.end c.loop-end-test.true c.if-right-end-eq0.true), (omega arith, omega arith))
-
-pub overflow_add-end-in-loop-end : goal.overflow_add-end-in-loop-end
-overflow_add-end-in-loop-end c = omega arith
-
-pub loop-end-smaller : goal.loop-end-smaller
-loop-end-smaller c = omega arith
 
 pub loop-end-preserved : goal.loop-end-preserved
 loop-end-preserved c = (omega (arith, run-odd c.args.right.now c.loop-end.end c.loop-end-test.true c.if-right-end-eq0.false), omega arith, omega arith)

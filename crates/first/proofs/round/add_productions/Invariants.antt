@@ -1,10 +1,11 @@
 -- What the loop of `first::round::add_productions` keeps.
-use Prim.Native.Nat.{◌-◌}
-use Rattle.first.proofs.Rounds.{Adding}
+use Rattle.cfg.specs.Productions.{productions_in}
+use Rattle.first.specs.Steps.{old_sets}
+use Rattle.first.specs.Rounds.{new_sets}
+use Rattle.first.proofs.Rounds.{Adding, round_over}
 use Rattle.first.proofs.round.add_productions.Given as goal
 
-abbrev pub invariant-loop-i : goal.invariant-loop-i
-invariant-loop-i l = Adding l.u l.at l.k l.words l.due l.initial.res l.initial.scratch l.i l.place l.res l.scratch
-
-abbrev pub decreases-loop-i : goal.decreases-loop-i
-decreases-loop-i l = l.u.p - l.i
+abbrev pub invariant-loop-q : goal.invariant-loop-q
+invariant-loop-q l =
+    let goal = round_over l.u l.k l.due (old_sets l.u l.initial.res) (new_sets l.u l.initial.scratch) l.u.p l.words in
+    Adding l.u l.at l.k l.due goal l.initial.res l.initial.scratch (productions_in l.q-iterator) l.res l.scratch

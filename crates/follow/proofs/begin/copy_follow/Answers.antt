@@ -1,25 +1,16 @@
 -- `begin::copy_follow` meets its contract. The loop's invariant is `Copying`. Assumes nothing.
 use native.Mathlib.Omega.{arith}
-use Rattle.follow.proofs.Starting.{copying-start, copying-both, copying-length, copying-more, copying-end}
+use Rattle.follow.proofs.Starting.{copying-start, copying-both, copying-more, copying-end}
 use Rattle.follow.proofs.begin.copy_follow.Goals as goal
-
-pub overflow_add-at : goal.overflow_add-at
-overflow_add-at c = omega (arith, c.requires.room)
 
 pub loop-i-init : goal.loop-i-init
 loop-i-init c = search copying-start
-
-pub overflow_add-at-in-loop-i : goal.overflow_add-at-in-loop-i
-overflow_add-at-in-loop-i c = omega (arith, c.requires.room)
 
 pub copy_block-requires : goal.copy_block-requires
 copy_block-requires c = (search copying-both, (omega (arith, c.requires.work), omega (arith, c.requires.room)))
 
 pub loop-i-preserved : goal.loop-i-preserved
 loop-i-preserved c = search copying-more
-
-pub shape_of-res : goal.shape_of-res
-shape_of-res c = search copying-length
 
 pub returns : goal.returns
 returns c = search copying-end

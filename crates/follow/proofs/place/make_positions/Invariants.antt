@@ -1,10 +1,6 @@
 -- What the loop of `follow::place::make_positions` keeps.
-use Prim.Native.Nat.{◌-◌}
 use Rattle.follow.proofs.Positioning.{Positioning}
 use Rattle.follow.proofs.place.make_positions.Given as goal
 
 abbrev pub invariant-loop-i : goal.invariant-loop-i
 invariant-loop-i l = Positioning l.u l.k l.words l.initial.res l.initial.scratch l.w l.i l.res l.scratch
-
-abbrev pub decreases-loop-i : goal.decreases-loop-i
-decreases-loop-i l = l.q - l.i

@@ -2,18 +2,16 @@
 use mathlib.Core.Path.{◌≡◌, sym, ◌∙◌}
 use mathlib.Core.List.{List}
 use Prim.Native.Nat.{ℕ}
-use native.Mathlib.Omega.{arith}
 use Rattle.k_tuple.specs.declared.Terminals.{Terminals}
-use Rattle.k_tuples.specs.declared.set.Grown.{Grown}
 use Rattle.k_tuples.specs.Members.{add_all, pairs_of}
-use Rattle.k_tuples.specs.Words.{number_in, decode, Grew, Numbered}
+use Rattle.k_tuples.specs.Words.{Growth, number_in, decode, Grew, Numbered}
 use Rattle.k_tuples.proofs.Words.{set-some}
 use Rattle.k_tuples.proofs.Walking.{none_open}
 use borrow.Author.Rules.{rules}
 use Rattle.k_joins.proofs.join.join_into.Goals as goal
 
 -- none of the first set is unfinished: each member stays
-as_first : {u : ℕ} {out exit : List ℕ} {r : Grown} (k : ℕ) (xs : List ℕ) (ys : List Terminals) → Numbered k xs → u ≡ number_in xs → u ≡ 0 → Grew out exit (add_all (decode xs) (decode out)) r
+as_first : {u : ℕ} {out exit : List ℕ} {r : Growth} (k : ℕ) (xs : List ℕ) (ys : List Terminals) → Numbered k xs → u ≡ number_in xs → u ≡ 0 → Grew out exit (add_all (decode xs) (decode out)) r
     → Grew out exit (add_all (pairs_of k (decode xs) ys) (decode out)) r
 as_first k xs ys n e z g = rw (none_open k (decode xs) ys (sym n ∙ sym e ∙ z)) g
 
@@ -22,9 +20,3 @@ number-requires c = search (rules, set-some)
 
 pub returns-then-number-eq0 : goal.returns-then-number-eq0
 returns-then-number-eq0 c = search as_first
-
-pub join_large-requires : goal.join_large-requires
-join_large-requires c = ((search rules, (search rules, search rules)), (search rules, (omega arith, omega arith)))
-
-pub join_large-requires-2 : goal.join_large-requires-2
-join_large-requires-2 c = ((search rules, (search rules, search rules)), (search rules, (omega arith, omega arith)))

@@ -1,5 +1,4 @@
 -- What the loop of `k_joins::pairs::join_each` keeps.
-use Prim.Native.Nat.{◌-◌}
 use Rattle.k_tuples.specs.Members.{add_all, joins_of}
 use Rattle.k_tuples.specs.Words.{decode}
 use Rattle.k_tuples.proofs.Filling.{Filling}
@@ -8,6 +7,3 @@ use Rattle.k_joins.proofs.pairs.join_each.Given as goal
 
 abbrev pub invariant-loop-i : goal.invariant-loop-i
 invariant-loop-i l = Filling (its-join l.k l.x) l.ys l.initial.out (add_all (joins_of l.k l.x (decode l.ys)) (decode l.initial.out)) l.n l.old l.i l.out
-
-abbrev pub decreases-loop-i : goal.decreases-loop-i
-decreases-loop-i l = l.n - l.i

@@ -1,5 +1,5 @@
 -- `k_joins::pairs::join_row` meets its contract. Assumes nothing.
-use Rattle.k_joins.proofs.Pairing.{gives_whole, gives_row}
+use Rattle.k_joins.proofs.Pairing.{gives_whole}
 use Rattle.k_tuples.proofs.Words.{joinable-at, joinable-well}
 use borrow.Author.Rules.{rules}
 use Rattle.k_joins.proofs.pairs.join_row.Goals as goal
@@ -12,6 +12,3 @@ returns-then-is_complete c = search gives_whole
 
 pub join_each-requires : goal.join_each-requires
 join_each-requires c = (search rules, (search rules, search joinable-at))
-
-pub returns : goal.returns
-returns c = search gives_row

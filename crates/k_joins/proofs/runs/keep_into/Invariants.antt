@@ -1,5 +1,4 @@
 -- What the loop of `k_joins::runs::keep_into` keeps.
-use Prim.Native.Nat.{◌-◌}
 use Rattle.k_tuples.specs.Members.{add_all}
 use Rattle.k_tuples.specs.Words.{decode}
 use Rattle.k_tuples.proofs.Filling.{Filling}
@@ -9,6 +8,3 @@ use Rattle.k_joins.proofs.runs.keep_into.Given as goal
 
 abbrev pub invariant-loop-i : goal.invariant-loop-i
 invariant-loop-i l = Filling (if_kept l.k) l.xs l.initial.out (add_all (keeps_of l.k (decode l.xs)) (decode l.initial.out)) l.n l.old l.i l.out
-
-abbrev pub decreases-loop-i : goal.decreases-loop-i
-decreases-loop-i l = l.n - l.i

@@ -3,8 +3,5 @@ use native.Mathlib.Omega.{arith}
 use Rattle.k_tuple.proofs.Binary.{leading-width}
 use Rattle.k_tuple.proofs.parts.width_for.Goals as goal
 
-pub overflow_sub-result : goal.overflow_sub-result
-overflow_sub-result c = omega (arith, leading-width c.args.m c.requires)
-
 pub returns : goal.returns
 returns c = omega (arith, leading-width c.args.m c.requires)

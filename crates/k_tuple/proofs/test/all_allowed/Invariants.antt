@@ -6,7 +6,4 @@ use Rattle.k_tuple.specs.Strings.{digits, allowed}
 use Rattle.k_tuple.proofs.test.all_allowed.Given as goal
 
 abbrev pub invariant-loop-left : goal.invariant-loop-left
-invariant-loop-left l = (l.rest.lo < 2 ^ 64) × (allowed l.w (digits l.w l.left (value l.rest.lo l.rest.hi)) ≡ allowed l.w (digits l.w l.initial.left (value l.initial.rest.lo l.initial.rest.hi)))
-
-abbrev pub decreases-loop-left : goal.decreases-loop-left
-decreases-loop-left l = l.left
+invariant-loop-left l = (l.rest.lo < 2 ^ 64) × (allowed l.w (digits l.w l.left (value l.rest.lo l.rest.hi)) ≡ allowed l.w (digits l.w l.l (value l.initial.rest.lo l.initial.rest.hi)))

@@ -1,42 +1,27 @@
 -- `k_tuple::test::is_well_formed` meets its contract: one law of `Tested` for each answer. Assumes nothing.
-use native.Mathlib.Nat.{lt_of_le_of_lt}
+use borrow.Author.Tests.{eq-eqb}
 use Prim.Native.Nat.{ℕ, ◌*◌, ◌^◌, ◌<◌}
 use mathlib.Core.Bool.{false}
 use mathlib.Core.Path.{◌≡◌, refl, ◌∙◌}
-use lib.Dec.{lit<}
-use mir.Facts.{Fits-below}
 use Rattle.k_tuple.specs.Wide.{value}
 use Rattle.k_tuple.specs.Strings.{slots_field, is_good, checked}
 use Rattle.k_tuple.specs.Packed.{number_of, reads}
 use Rattle.k_tuple.specs.declared.Terminals.{Terminals}
-use Rattle.k_tuple.proofs.Round.{room}
 use Rattle.k_tuple.proofs.Tested.{too-narrow, too_wide, too_long, too_much, one-slot, by_slots, some-past, none-past, good-at}
 use Rattle.k_tuple.proofs.test.is_well_formed.Goals as goal
-use Rattle.k_tuple.proofs.test.is_well_formed.Goals.{After-high_part-past}
+use Rattle.k_tuple.proofs.test.is_well_formed.Goals.{After-high_part-past, then-w-eq0-via-then-w-eq0, then-w-eq0-via-else-w-eq0+then-w-gt12, then-w-eq0-via-else-w-eq0+else-w-gt12+then-l-gt10, then-past-ne0-via-then-past-ne0, then-past-ne0-via-else-past-ne0+then-past-ne0-2}
 
 pub returns-then-w-eq0 : goal.returns-then-w-eq0
 returns-then-w-eq0 c =
-    let t = c.args.t in
-    too-narrow c.width-w.result c.count-l.result (slots_field (number_of t)) c.if-w-eq0.true
-    ∙ good-at t c.width-w.result c.count-l.result (slots_field (number_of t)) c.width-w.ensures c.count-l.ensures refl
-
-pub returns-then-w-gt12 : goal.returns-then-w-gt12
-returns-then-w-gt12 c =
-    let t = c.args.t in
-    too_wide c.width-w.result c.count-l.result (slots_field (number_of t)) c.if-w-gt12.true
-    ∙ good-at t c.width-w.result c.count-l.result (slots_field (number_of t)) c.width-w.ensures c.count-l.ensures refl
-
-pub returns-then-l-gt10 : goal.returns-then-l-gt10
-returns-then-l-gt10 c =
-    let t = c.args.t in
-    too_long c.width-w.result c.count-l.result (slots_field (number_of t)) c.if-l-gt10.true
-    ∙ good-at t c.width-w.result c.count-l.result (slots_field (number_of t)) c.width-w.ensures c.count-l.ensures refl
-
-pub overflow_mul-l : goal.overflow_mul-l
-overflow_mul-l c = Fits-below {n = 120} tt (room _ _ c.if-l-gt10.false c.if-w-gt12.false)
-
-pub high_part-past-requires : goal.high_part-past-requires
-high_part-past-requires c = lt_of_le_of_lt (room _ _ c.if-l-gt10.false c.if-w-gt12.false) (lit< tt)
+    let w = c.width-w.result in
+    let l = c.count-l.result in
+    let n = slots_field (number_of c.args.t) in
+    let none : false ≡ is_good (checked w l n) = elim c.then-w-eq0.branch [
+      | then-w-eq0-via-then-w-eq0 b ↦ too-narrow w l n b.if-w-eq0.true
+      | then-w-eq0-via-else-w-eq0+then-w-gt12 b ↦ too_wide w l n b.if-w-gt12.true
+      | then-w-eq0-via-else-w-eq0+else-w-gt12+then-l-gt10 b ↦ too_long w l n b.if-l-gt10.true
+    ] in
+    none ∙ good-at c.args.t w l n c.width-w.ensures c.count-l.ensures refl
 
 -- the fields, once they are read
 module _ (c : After-high_part-past) where
@@ -64,18 +49,21 @@ module _ (c : After-high_part-past) where
   within p q = none-past n (l * w) c.high_part-past.result.lo c.high_part-past.result.hi c.high_part-past.ensures p q
 
 pub returns-then-past-ne0 : goal.returns-then-past-ne0
-returns-then-past-ne0 c = over (goal.at.returns-then-past-ne0 c).After-high_part-past (λ z. c.if-past-ne0.true z.0)
-
-pub returns-then-past-ne0-2 : goal.returns-then-past-ne0-2
-returns-then-past-ne0-2 c = over (goal.at.returns-then-past-ne0-2 c).After-high_part-past (λ z. c.if-past-ne0-2.true z.1)
+returns-then-past-ne0 c =
+    let read = (goal.at.returns-then-past-ne0 c).After-high_part-past in
+    elim c.then-past-ne0.branch [
+      | then-past-ne0-via-then-past-ne0 b ↦ over read (λ z. b.if-past-ne0.true z.0)
+      | then-past-ne0-via-else-past-ne0+then-past-ne0-2 b ↦ over read (λ z. b.if-past-ne0-2.true z.1)
+    ]
 
 pub returns-then-l-eq1 : goal.returns-then-l-eq1
 returns-then-l-eq1 c =
-    one-slot (w (goal.at.returns-then-l-eq1 c).After-high_part-past) (l (goal.at.returns-then-l-eq1 c).After-high_part-past) (n (goal.at.returns-then-l-eq1 c).After-high_part-past) c.if-w-eq0.false c.if-w-gt12.false (within (goal.at.returns-then-l-eq1 c).After-high_part-past c.if-past-ne0.false c.if-past-ne0-2.false) c.if-l-eq1.true
+    eq-eqb c.count-l.result 1 c.if-l-eq1.true
+    ∙ one-slot (w (goal.at.returns-then-l-eq1 c).After-high_part-past) (l (goal.at.returns-then-l-eq1 c).After-high_part-past) (n (goal.at.returns-then-l-eq1 c).After-high_part-past) c.if-w-eq0.false c.if-w-gt12.false (within (goal.at.returns-then-l-eq1 c).After-high_part-past c.if-past-ne0.false c.if-past-ne0-2.false) c.if-l-eq1.true
     ∙ fields-are (goal.at.returns-then-l-eq1 c).After-high_part-past
 
-pub returns : goal.returns
-returns c =
+pub returns-else-l-eq1 : goal.returns-else-l-eq1
+returns-else-l-eq1 c =
     c.all_allowed.ensures
-    ∙ by_slots (w (goal.at.returns c).After-high_part-past) (l (goal.at.returns c).After-high_part-past) (n (goal.at.returns c).After-high_part-past) c.if-w-eq0.false c.if-w-gt12.false (within (goal.at.returns c).After-high_part-past c.if-past-ne0.false c.if-past-ne0-2.false) c.if-l-eq1.false c.if-l-gt10.false
-    ∙ fields-are (goal.at.returns c).After-high_part-past
+    ∙ by_slots (w (goal.at.returns-else-l-eq1 c).After-high_part-past) (l (goal.at.returns-else-l-eq1 c).After-high_part-past) (n (goal.at.returns-else-l-eq1 c).After-high_part-past) c.if-w-eq0.false c.if-w-gt12.false (within (goal.at.returns-else-l-eq1 c).After-high_part-past c.if-past-ne0.false c.if-past-ne0-2.false) c.if-l-eq1.false c.if-l-gt10.false
+    ∙ fields-are (goal.at.returns-else-l-eq1 c).After-high_part-past

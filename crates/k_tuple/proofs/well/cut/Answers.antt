@@ -13,34 +13,28 @@ use Rattle.k_tuple.proofs.Pushing.{cut-stays, cut-none, cut-top, cut-falls, cut-
 use Rattle.k_tuple.proofs.well.cut.Goals as goal
 use Rattle.k_tuple.proofs.well.cut.Goals.{After-loop-l, In-loop-l}
 
-pub returns-then-l-k : goal.returns-then-l-k
-returns-then-l-k c =
-    let l = c.count-l in
-    cut-stays c.args.t c.requires.0 c.args.k (omega arith) l.result l.ensures c.if-l-k.true
+pub returns-then-n-k : goal.returns-then-n-k
+returns-then-n-k c =
+    let l = c.count-n in
+    cut-stays c.args.t c.requires.0 c.args.k (omega arith) l.result l.ensures c.if-n-k.true
 
 pub loop-l-init : goal.loop-l-init
 loop-l-init c =
     let n = c.slots-s in
-    (le_of_lt c.if-l-k.false, (omega arith, cut-none c.args.t c.requires.0 c.width-w.result c.count-l.result (value n.result.lo n.result.hi) c.width-w.ensures c.count-l.ensures n.ensures))
+    (le_of_lt c.if-n-k.false, (omega arith, cut-none c.args.t c.requires.0 c.width-w.result c.count-n.result (value n.result.lo n.result.hi) c.width-w.ensures c.count-n.ensures n.ensures))
 
 -- the slots that are left fit
 bits : (c : In-loop-l) → (c.loop-l.l - 1) * c.width-w.result ≤ 120
 bits c =
-    let most = count-le c.args.t c.requires.0 c.count-l.result c.count-l.ensures in
+    let most = count-le c.args.t c.requires.0 c.count-n.result c.count-n.ensures in
     let less = c.loop-l.invariant.1.0 in
     bits-le c.args.t c.requires.0 c.width-w.result (c.loop-l.l - 1) c.width-w.ensures (omega arith)
-
-pub overflow_sub-l : goal.overflow_sub-l
-overflow_sub-l c = omega arith
 
 pub overflow_mul-l : goal.overflow_mul-l
 overflow_mul-l c = Fits-below {n = 120} tt (bits (goal.at.overflow_mul-l c).In-loop-l)
 
 pub low_part-s-requires : goal.low_part-s-requires
 low_part-s-requires c = lt_of_le_of_lt (bits (goal.at.low_part-s-requires c).In-loop-l) (lit< tt)
-
-pub loop-l-smaller : goal.loop-l-smaller
-loop-l-smaller c = omega arith
 
 pub loop-l-preserved : goal.loop-l-preserved
 loop-l-preserved c =
@@ -71,4 +65,4 @@ pub returns : goal.returns
 returns c =
     c.sealed.ensures
     ∙ ap (λ (v : ℕ). words (fields c.width-w.result c.args.k v)) (first-k (goal.at.returns c).After-loop-l)
-    ∙ cut-falls c.args.t c.requires.0 c.args.k c.width-w.result c.count-l.result (value c.slots-s.result.lo c.slots-s.result.hi) c.width-w.ensures c.count-l.ensures c.slots-s.ensures c.if-l-k.false
+    ∙ cut-falls c.args.t c.requires.0 c.args.k c.width-w.result c.count-n.result (value c.slots-s.result.lo c.slots-s.result.hi) c.width-w.ensures c.count-n.ensures c.slots-s.ensures c.if-n-k.false

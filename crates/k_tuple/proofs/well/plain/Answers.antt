@@ -4,7 +4,7 @@ use lib.ListN.{length}
 use Rattle.k_tuple.specs.Strings.{number}
 use Rattle.k_tuple.specs.Packed.{reads, width_in}
 use Rattle.k_tuple.proofs.Words.{zero-value}
-use Rattle.k_tuple.proofs.Held.{eps-none, plain-stored}
+use Rattle.k_tuple.proofs.Held.{eps-none}
 use Rattle.k_tuple.proofs.well.plain.Goals as goal
 
 pub returns-then-is_eps : goal.returns-then-is_eps
@@ -12,9 +12,3 @@ returns-then-is_eps c =
     let d = reads c.args.t in
     let none = eps-none d (sym c.is_eps.ensures ∙ c.if-is_eps.true) in
     (ap length none, zero-value ∙ ap (number (width_in d)) none)
-
-pub returns-else-is_eps : goal.returns-else-is_eps
-returns-else-is_eps c =
-    let d = reads c.args.t in
-    let same = plain-stored d (sym c.is_eps.ensures ∙ c.if-is_eps.false) in
-    (c.held.ensures.0 ∙ ap length same, c.held.ensures.1 ∙ ap (number (width_in d)) same)

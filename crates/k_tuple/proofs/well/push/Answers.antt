@@ -5,15 +5,9 @@ use Rattle.k_tuple.specs.Wide.{value}
 use Rattle.k_tuple.proofs.Pushing.{push-stays, push-room, push-grows}
 use Rattle.k_tuple.proofs.well.push.Goals as goal
 
-pub is_ended-requires : goal.is_ended-requires
-is_ended-requires c = c.requires.well
-
 pub returns-then-is_ended : goal.returns-then-is_ended
 returns-then-is_ended c =
     push-stays c.args.t c.args.x c.requires (omega arith) (sym c.is_ended.ensures ∙ c.if-is_ended.true)
-
-pub held-requires : goal.held-requires
-held-requires c = c.requires.well
 
 pub appended-requires : goal.appended-requires
 appended-requires c =

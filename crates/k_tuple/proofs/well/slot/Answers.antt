@@ -10,8 +10,8 @@ overflow_mul-i c =
     let h = bits-le c.args.t c.requires.0 c.width-w.result c.args.i c.width-w.ensures (le_of_lt c.requires.1) in
     omega arith
 
-pub high_part-from-requires : goal.high_part-from-requires
-high_part-from-requires c =
+pub high_part-requires : goal.high_part-requires
+high_part-requires c =
     let h = bits-le c.args.t c.requires.0 c.width-w.result c.args.i c.width-w.ensures (le_of_lt c.requires.1) in
     omega arith
 
@@ -23,5 +23,5 @@ pub returns : goal.returns
 returns c =
     let n = c.slots in
     let w = c.width-w in
-    slot_read c.args.t c.requires.0 w.result c.ones.result c.args.i (value n.result.lo n.result.hi) c.high_part-from.result.lo c.high_part-from.result.hi
-    w.ensures c.ones.ensures n.ensures c.high_part-from.ensures (omega arith)
+    slot_read c.args.t c.requires.0 w.result c.ones.result c.args.i (value n.result.lo n.result.hi) c.high_part.result.lo c.high_part.result.hi
+    w.ensures c.ones.ensures n.ensures c.high_part.ensures (omega arith)

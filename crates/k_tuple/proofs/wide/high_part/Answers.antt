@@ -1,17 +1,8 @@
 -- `k_tuple::wide::high_part` meets its contract: one law of `Words` for each branch. Assumes nothing.
 use native.Mathlib.Omega.{arith}
-use Prim.Native.Nat.{ℕ, ◌-◌, ◌/◌, ◌^◌}
-use mathlib.Core.Path.{sym, ap, ◌∙◌}
-use native.Mathlib.Nat.{div-one}
-use Rattle.k_tuple.specs.Wide.{value}
+use Prim.Native.Nat.{◌-◌}
 use Rattle.k_tuple.proofs.Words.{high-near, high-far}
 use Rattle.k_tuple.proofs.wide.high_part.Goals as goal
-
-pub returns-then-s-eq0 : goal.returns-then-s-eq0
-returns-then-s-eq0 c =
-    let a = c.args in
-    let v = value a.x.lo a.x.hi in
-    sym (ap (λ (s : ℕ). v / 2 ^ s) c.if-s-eq0.true ∙ div-one v)
 
 pub returns-then-s-lt64 : goal.returns-then-s-lt64
 returns-then-s-lt64 c =

@@ -1,14 +1,8 @@
 -- `k_tuple::wide::low_part` meets its contract: one law of `Words` for each branch. Assumes nothing.
 use native.Mathlib.Omega.{arith}
 use Prim.Native.Nat.{◌-◌}
-use Rattle.k_tuple.proofs.Words.{one-shl-pos, low_near, low-far}
+use Rattle.k_tuple.proofs.Words.{low_near, low-far}
 use Rattle.k_tuple.proofs.wide.low_part.Goals as goal
-
-pub overflow_sub-result : goal.overflow_sub-result
-overflow_sub-result c = one-shl-pos c.args.s (omega arith)
-
-pub overflow_sub-result-else-s-lt64-2 : goal.overflow_sub-result-else-s-lt64-2
-overflow_sub-result-else-s-lt64-2 c = one-shl-pos (c.args.s - 64) (omega arith)
 
 pub returns-then-s-lt64 : goal.returns-then-s-lt64
 returns-then-s-lt64 c =

@@ -1,34 +1,38 @@
--- `k_tuples::merge::compare` meets its contract: the number with the higher high word is above, then that with the higher low word. Assumes nothing.
-use mathlib.Core.Path.{ap₂}
+-- `k_tuples::merge::compare` meets its contract. Assumes nothing.
 use native.Mathlib.Omega.{arith}
-use Rattle.k_tuple.specs.Wide.{value}
-use Rattle.k_tuple.proofs.Ordered.{words-less}
-use Rattle.k_tuples.proofs.Merging.{side-below, side_same, side-above}
+use mathlib.Core.Path.{◌≡◌, refl, ◌∙◌}
+use mathlib.Core.Bool.{Bool, true, false, cond}
+use Prim.Native.Nat.{ℕ}
+use borrow.Author.Tests.{le-ltb, eq-eqb, ne_eqb}
+use lib.Dec.{ltb}
+use Rattle.std.specs.declared.cmp.Ordering.{Ordering}
+use Rattle.std.specs.declared.cmp.Ordering.TheVariants.{Less, Greater}
+use Rattle.std.specs.Ordering.{nat_cmp, ordering_then}
+use Rattle.k_tuple.proofs.Ordered.{words-cmp}
+use Rattle.k_tuples.specs.Merging.{side_of}
 use Rattle.k_tuples.proofs.merge.compare.Goals as goal
 
-pub returns-then-x-y-2 : goal.returns-then-x-y-2
-returns-then-x-y-2 c =
-    let a = c.args in
-    side_same a.x a.y (ap₂ value c.if-x-y-2.true c.if-x-y.true)
+-- the first of two orders decides, or where that is of equals the second
+first-same : (a b : ℕ) (o : Ordering) → a ≡ b → o ≡ ordering_then (nat_cmp a b) o
+first-same a b o e = rw (le-ltb a b (omega arith), eq-eqb a b e)
 
-pub returns-then-x-y-3 : goal.returns-then-x-y-3
-unfolding value
-returns-then-x-y-3 c =
-    let a = c.args in
-    side-below a.x a.y (omega (arith, c.if-x-y-3.true, c.if-x-y.true))
+first-differs : (a b : ℕ) (o : Ordering) → (a ≡ b → ⊥) → nat_cmp a b ≡ ordering_then (nat_cmp a b) o
+first-differs a b o n = rw (ne_eqb a b n) (by (ltb a b))
+  where
+    by : (t : Bool) → cond t Less Greater ≡ ordering_then (cond t Less Greater) o
+    by true = refl
+    by false = refl
 
 pub returns-then-x-y : goal.returns-then-x-y
-unfolding value
+unfolding side_of
 returns-then-x-y c =
-    let a = c.args in
-    side-above a.x a.y (omega (arith, c.if-x-y-3.false, c.if-x-y-2.false, c.if-x-y.true))
+    let x = c.args.x in
+    let y = c.args.y in
+    c.cmp.ensures ∙ first-same x.hi y.hi _ c.if-x-y.true ∙ words-cmp x.lo x.hi y.lo y.hi (omega arith) (omega arith)
 
-pub returns-then-x-y-4 : goal.returns-then-x-y-4
-returns-then-x-y-4 c =
-    let a = c.args in
-    side-below a.x a.y (words-less a.x.lo a.x.hi a.y.lo a.y.hi (omega arith) (omega arith) c.if-x-y-4.true)
-
-pub returns : goal.returns
-returns c =
-    let a = c.args in
-    side-above a.x a.y (words-less a.y.lo a.y.hi a.x.lo a.x.hi (omega arith) (omega arith) (omega (arith, c.if-x-y-4.false, c.if-x-y.false)))
+pub returns-else-x-y : goal.returns-else-x-y
+unfolding side_of
+returns-else-x-y c =
+    let x = c.args.x in
+    let y = c.args.y in
+    c.cmp-else-x-y.ensures ∙ first-differs x.hi y.hi _ c.if-x-y.false ∙ words-cmp x.lo x.hi y.lo y.hi (omega arith) (omega arith)

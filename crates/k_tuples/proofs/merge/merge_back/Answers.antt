@@ -10,14 +10,14 @@ loop-i-init c = search back_start
 pub returns-then-m-i : goal.returns-then-m-i
 returns-then-m-i c = search back-stop
 
-pub loop-i-preserved-in-Below : goal.loop-i-preserved-in-Below
-loop-i-preserved-in-Below c = back_below c.loop-i.invariant c.loop-i-test.true (omega (arith, c.if-m-i.false)) c.read-x.ensures c.read-y.ensures c.compare.ensures c.in-Below.is c.put.ensures
+pub loop-i-preserved-in-Less : goal.loop-i-preserved-in-Less
+loop-i-preserved-in-Less c = back_below c.loop-i.invariant c.loop-i-test.true (omega (arith, c.if-m-i.false)) c.read-x.ensures c.read-y.ensures c.compare.ensures c.in-Less.is c.put.ensures
 
-pub loop-i-preserved-in-Same : goal.loop-i-preserved-in-Same
-loop-i-preserved-in-Same c = back-same c.loop-i.invariant c.loop-i-test.true (omega (arith, c.if-m-i.false)) c.read-x.ensures c.read-y.ensures c.compare.ensures c.in-Same.is c.put-in-Same.ensures
+pub loop-i-preserved-in-Equal : goal.loop-i-preserved-in-Equal
+loop-i-preserved-in-Equal c = back-same c.loop-i.invariant c.loop-i-test.true (omega (arith, c.if-m-i.false)) c.read-x.ensures c.read-y.ensures c.compare.ensures c.in-Equal.is c.put-in-Equal.ensures
 
 pub loop-i-preserved : goal.loop-i-preserved
-loop-i-preserved c = back_above c.loop-i.invariant c.loop-i-test.true (omega (arith, c.if-m-i.false)) c.read-x.ensures c.read-y.ensures c.compare.ensures c.in-Above.is c.put-in-Above.ensures
+loop-i-preserved c = back_above c.loop-i.invariant c.loop-i-test.true (omega (arith, c.if-m-i.false)) c.read-x.ensures c.read-y.ensures c.compare.ensures c.in-Greater.is c.put-in-Greater.ensures
 
 pub put_first-requires : goal.put_first-requires
 put_first-requires c = ((search rules, search rules), (search rules, search front-room))

@@ -16,14 +16,14 @@ member-x-requires c = (search rules, search rules)
 pub member-y-requires : goal.member-y-requires
 member-y-requires c = (search rules, search rules)
 
-pub loop-i-preserved-in-Below : goal.loop-i-preserved-in-Below
-loop-i-preserved-in-Below c = count-below c.loop-i.invariant c.loop-i-test.true (omega (arith, c.if-n-j.false)) c.member-x.ensures c.member-y.ensures c.compare.ensures c.in-Below.is
+pub loop-i-preserved-in-Less : goal.loop-i-preserved-in-Less
+loop-i-preserved-in-Less c = count-below c.loop-i.invariant c.loop-i-test.true (omega (arith, c.if-n-j.false)) c.member-x.ensures c.member-y.ensures c.compare.ensures c.in-Less.is
 
-pub loop-i-preserved-in-Same : goal.loop-i-preserved-in-Same
-loop-i-preserved-in-Same c = count_same c.loop-i.invariant c.loop-i-test.true (omega (arith, c.if-n-j.false)) c.member-x.ensures c.member-y.ensures c.compare.ensures c.in-Same.is
+pub loop-i-preserved-in-Equal : goal.loop-i-preserved-in-Equal
+loop-i-preserved-in-Equal c = count_same c.loop-i.invariant c.loop-i-test.true (omega (arith, c.if-n-j.false)) c.member-x.ensures c.member-y.ensures c.compare.ensures c.in-Equal.is
 
 pub loop-i-preserved : goal.loop-i-preserved
-loop-i-preserved c = count-above c.loop-i.invariant c.loop-i-test.true (omega (arith, c.if-n-j.false)) c.member-x.ensures c.member-y.ensures c.compare.ensures c.in-Above.is
+loop-i-preserved c = count-above c.loop-i.invariant c.loop-i-test.true (omega (arith, c.if-n-j.false)) c.member-x.ensures c.member-y.ensures c.compare.ensures c.in-Greater.is
 
 pub returns : goal.returns
 returns c = search count-end

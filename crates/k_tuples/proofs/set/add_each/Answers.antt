@@ -9,11 +9,11 @@ loop-i-init c = search fill_start
 pub add_member-requires : goal.add_member-requires
 add_member-requires c = (search rules, (search rules, search rules))
 
-pub returns-then-is_full : goal.returns-then-is_full
-returns-then-is_full c = search fill-full
+pub returns-in_err-add_member : goal.returns-in_err-add_member
+returns-in_err-add_member c = fill-full c.loop-i.invariant c.loop-i-test.true c.add_member.ensures c.in_err-add_member.was (search rules)
 
 pub loop-i-preserved : goal.loop-i-preserved
-loop-i-preserved c = search fill_more
+loop-i-preserved c = fill_more c.loop-i.invariant c.loop-i-test.true c.add_member.ensures c.in_ok-add_member.was
 
 pub returns : goal.returns
 returns c = search fill_end

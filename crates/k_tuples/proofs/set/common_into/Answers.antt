@@ -1,4 +1,5 @@
 -- `k_tuples::set::common_into` meets its contract. Its loop is a `Sharing`. Assumes nothing.
+use borrow.Author.Rules.{rules}
 use native.Mathlib.Omega.{arith}
 use Rattle.k_tuples.proofs.Merging.{share-start, share-below, share-full, share-more, share-above, share-stop, share-end}
 use Rattle.k_tuples.proofs.set.common_into.Goals as goal
@@ -15,17 +16,17 @@ member-x-requires c = (c.requires.1.0, omega (arith, c.loop-i-test.true, c.loop-
 pub member-requires : goal.member-requires
 member-requires c = (c.requires.1.1, omega (arith, c.if-m-j.false, c.loop-i.invariant.second))
 
-pub loop-i-preserved-in-Below : goal.loop-i-preserved-in-Below
-loop-i-preserved-in-Below c = share-below c.loop-i.invariant c.loop-i-test.true (omega (arith, c.if-m-j.false)) c.member-x.ensures c.member.ensures c.compare.ensures c.in-Below.is
+pub loop-i-preserved-in-Less : goal.loop-i-preserved-in-Less
+loop-i-preserved-in-Less c = share-below c.loop-i.invariant c.loop-i-test.true (omega (arith, c.if-m-j.false)) c.member-x.ensures c.member.ensures c.compare.ensures c.in-Less.is
 
-pub returns-then-is_full : goal.returns-then-is_full
-returns-then-is_full c = share-full c.loop-i.invariant c.loop-i-test.true (omega (arith, c.if-m-j.false)) c.member-x.ensures c.member.ensures c.compare.ensures c.in-Same.is c.insert.ensures c.is_full.ensures c.if-is_full.true
+pub returns-in_err-insert-in-Equal : goal.returns-in_err-insert-in-Equal
+returns-in_err-insert-in-Equal c = share-full c.loop-i.invariant c.loop-i-test.true (omega (arith, c.if-m-j.false)) c.member-x.ensures c.member.ensures c.compare.ensures c.in-Equal.is c.insert.ensures c.in_err-insert-in-Equal.was (search rules)
 
-pub loop-i-preserved-in-Same : goal.loop-i-preserved-in-Same
-loop-i-preserved-in-Same c = share-more c.loop-i.invariant c.loop-i-test.true (omega (arith, c.if-m-j.false)) c.member-x.ensures c.member.ensures c.compare.ensures c.in-Same.is c.insert.ensures c.is_full.ensures c.if-is_full.false
+pub loop-i-preserved-in-Equal : goal.loop-i-preserved-in-Equal
+loop-i-preserved-in-Equal c = share-more c.loop-i.invariant c.loop-i-test.true (omega (arith, c.if-m-j.false)) c.member-x.ensures c.member.ensures c.compare.ensures c.in-Equal.is c.insert.ensures c.in_ok-insert-in-Equal.was
 
 pub loop-i-preserved : goal.loop-i-preserved
-loop-i-preserved c = share-above c.loop-i.invariant c.loop-i-test.true (omega (arith, c.if-m-j.false)) c.member-x.ensures c.member.ensures c.compare.ensures c.in-Above.is
+loop-i-preserved c = share-above c.loop-i.invariant c.loop-i-test.true (omega (arith, c.if-m-j.false)) c.member-x.ensures c.member.ensures c.compare.ensures c.in-Greater.is
 
 pub returns : goal.returns
 returns c = search share-end

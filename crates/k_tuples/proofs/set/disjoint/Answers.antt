@@ -12,14 +12,14 @@ returns-then-m-j c = search meet-stop
 pub member-requires-in-loop-i : goal.member-requires-in-loop-i
 member-requires-in-loop-i c = (c.requires.1, omega (arith, c.if-m-j.false, c.loop-i.invariant.second))
 
-pub loop-i-preserved-in-Below : goal.loop-i-preserved-in-Below
-loop-i-preserved-in-Below c = meet_below c.loop-i.invariant c.loop-i-test.true (omega (arith, c.if-m-j.false)) c.member.ensures c.member-in-loop-i.ensures c.compare.ensures c.in-Below.is
+pub loop-i-preserved-in-Less : goal.loop-i-preserved-in-Less
+loop-i-preserved-in-Less c = meet_below c.loop-i.invariant c.loop-i-test.true (omega (arith, c.if-m-j.false)) c.member.ensures c.member-in-loop-i.ensures c.compare.ensures c.in-Less.is
 
-pub returns-in-Same : goal.returns-in-Same
-returns-in-Same c = meet-same c.loop-i.invariant c.loop-i-test.true (omega (arith, c.if-m-j.false)) c.member.ensures c.member-in-loop-i.ensures c.compare.ensures c.in-Same.is
+pub returns-in-Equal : goal.returns-in-Equal
+returns-in-Equal c = meet-same c.loop-i.invariant c.loop-i-test.true (omega (arith, c.if-m-j.false)) c.member.ensures c.member-in-loop-i.ensures c.compare.ensures c.in-Equal.is
 
 pub loop-i-preserved : goal.loop-i-preserved
-loop-i-preserved c = meet-above c.loop-i.invariant c.loop-i-test.true (omega (arith, c.if-m-j.false)) c.member.ensures c.member-in-loop-i.ensures c.compare.ensures c.in-Above.is
+loop-i-preserved c = meet-above c.loop-i.invariant c.loop-i-test.true (omega (arith, c.if-m-j.false)) c.member.ensures c.member-in-loop-i.ensures c.compare.ensures c.in-Greater.is
 
 pub returns : goal.returns
 returns c = search meet-end

@@ -2,8 +2,8 @@
 use Rattle.k_tuples.proofs.Words.{set-over, set-replaced}
 use Rattle.k_tuples.proofs.set.replace_set.Goals as goal
 
-pub returns-then-old-n : goal.returns-then-old-n
-returns-then-old-n c = search set-over
+pub returns-then-n-old : goal.returns-then-n-old
+returns-then-n-old c = search set-replaced
 
-pub returns : goal.returns
-returns c = search set-replaced
+pub returns-else-n-old : goal.returns-else-n-old
+returns-else-n-old c = search set-over

@@ -8,8 +8,8 @@ returns-then-count-n c = search match-not
 pub loop-i-init : goal.loop-i-init
 loop-i-init c = search match-start
 
-pub returns-else-same : goal.returns-else-same
-returns-else-same c = search match-ended
+pub returns-then-not-same : goal.returns-then-not-same
+returns-then-not-same c = match-ended c.loop-i.invariant c.loop-i-test.true c.member.ensures c.member-in-loop-i.ensures c.same.ensures c.if-not-same.true
 
 pub loop-i-preserved : goal.loop-i-preserved
 loop-i-preserved c = search match-more

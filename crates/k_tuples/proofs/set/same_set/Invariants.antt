@@ -1,5 +1,4 @@
 -- What the loop of `k_tuples::set::same_set` keeps.
-use Prim.Native.Nat.{◌-◌}
 use Rattle.k_tuples.specs.Members.{same_members}
 use Rattle.k_tuples.specs.Words.{decode}
 use Rattle.k_tuples.proofs.Walking.{Matching}
@@ -7,6 +6,3 @@ use Rattle.k_tuples.proofs.set.same_set.Given as goal
 
 abbrev pub invariant-loop-i : goal.invariant-loop-i
 invariant-loop-i l = Matching l.a l.b (same_members (decode l.a) (decode l.b)) l.n l.i
-
-abbrev pub decreases-loop-i : goal.decreases-loop-i
-decreases-loop-i l = l.n - l.i

@@ -3,7 +3,6 @@ use mathlib.Core.Path.{◌≡◌, refl, sym, ap, ◌∙◌}
 use mathlib.Core.Bool.{Bool, ◌&&◌}
 use Prim.Native.Nat.{◌+◌}
 use native.Mathlib.Omega.{arith}
-use borrow.Author.Tests.{not-true, not-false}
 use lib.ListN.{drop}
 use Rattle.k_tuple.specs.Packed.{reads}
 use Rattle.k_tuple.specs.declared.Terminals.{Terminals}
@@ -14,16 +13,7 @@ use Rattle.k_tuples.proofs.test.all_members.Goals as goal
 use Rattle.k_tuples.proofs.test.all_members.Goals.{After-is_member}
 
 pub loop-i-init : goal.loop-i-init
-loop-i-init c = (c.counted-n.ensures, omega arith, refl)
-
-pub overflow_mul-i : goal.overflow_mul-i
-overflow_mul-i c = omega arith
-
-pub overflow_add-i : goal.overflow_add-i
-overflow_add-i c = omega arith
-
-pub read-requires : goal.read-requires
-read-requires c = omega arith
+loop-i-init c = (c.counted-i-end.ensures, refl)
 
 -- the member at i, and those after it
 turn : (c : After-is_member) →
@@ -34,27 +24,21 @@ turn c =
     let a = c.args in
     let ws = a.words.now in
     let i = c.loop-i.i in
-    c.loop-i.invariant.2
+    c.loop-i.invariant.1
     ∙ ap (all_members a.k a.w) (rest-member ws i (omega arith))
     ∙ ap (λ (t : Bool). t && all_members a.k a.w (drop (i + 1) (decode ws)))
     (ap (λ (t : Terminals). is_member a.k a.w (reads t)) (sym c.read.ensures) ∙ sym c.is_member.ensures)
 
 pub returns-then-not-is_member : goal.returns-then-not-is_member
-returns-then-not-is_member c = sym (turn (goal.at.returns-then-not-is_member c).After-is_member ∙ rw (not-true c.is_member.result c.if-not-is_member.true-raw))
-
-pub overflow_add-i-in-loop-i : goal.overflow_add-i-in-loop-i
-overflow_add-i-in-loop-i c = omega arith
-
-pub loop-i-smaller : goal.loop-i-smaller
-loop-i-smaller c = omega arith
+returns-then-not-is_member c = sym (turn (goal.at.returns-then-not-is_member c).After-is_member ∙ rw (c.if-not-is_member.true))
 
 pub loop-i-preserved : goal.loop-i-preserved
 loop-i-preserved c =
     let inv = c.loop-i.invariant in
-    (inv.0, omega arith, turn (goal.at.loop-i-preserved c).After-is_member ∙ rw (not-false c.is_member.result c.if-not-is_member.false-raw))
+    (inv.0, turn (goal.at.loop-i-preserved c).After-is_member ∙ rw (c.if-not-is_member.false))
 
 pub returns : goal.returns
 returns c =
     let l = c.loop-i in
     let a = c.args in
-    sym (l.invariant.2 ∙ ap (all_members a.k a.w) (rest-none a.words.now l.i (omega arith)))
+    sym (l.invariant.1 ∙ ap (all_members a.k a.w) (rest-none a.words.now l.i (omega arith)))

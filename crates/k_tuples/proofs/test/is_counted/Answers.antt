@@ -3,7 +3,6 @@ use mathlib.Core.Path.{◌≡◌, sym, ap, ◌∙◌}
 use mathlib.Core.Bool.{◌&&◌}
 use Prim.Native.Nat.{ℕ, ◌+◌, ◌-◌, ◌*◌}
 use native.Mathlib.Omega.{arith}
-use borrow.Author.Tests.{not-true, not-false}
 use lib.ListN.{length, drop, length-drop}
 use lib.Seq.{take_all}
 use Rattle.k_tuples.specs.Members.{rising}
@@ -25,7 +24,7 @@ past : (c : Else-not-all_members) →
     let a = c.args in
     let ws = a.words.now in
     holds_counted a.k ws ≡ (rising (decode ws) && all_zero (drop (2 * count_in ws + 1) ws))
-past c = fits (goal.at.Else-not-all_members c).Else-words-n ∙ rw (← c.set_width-w.ensures, ← c.all_members.ensures, not-false c.all_members.result c.if-not-all_members.false-raw)
+past c = fits (goal.at.Else-not-all_members c).Else-words-n ∙ rw (← c.set_width-w.ensures, ← c.all_members.ensures, c.if-not-all_members.false)
 
 pub returns-then-words-eq0 : goal.returns-then-words-eq0
 returns-then-words-eq0 c =
@@ -39,11 +38,11 @@ returns-then-words-n c =
 
 pub returns-then-not-all_members : goal.returns-then-not-all_members
 returns-then-not-all_members c =
-    failed-count (fits (goal.at.returns-then-not-all_members c).Else-words-n ∙ rw (← c.set_width-w.ensures, ← c.all_members.ensures, not-true c.all_members.result c.if-not-all_members.true-raw))
+    failed-count (fits (goal.at.returns-then-not-all_members c).Else-words-n ∙ rw (← c.set_width-w.ensures, ← c.all_members.ensures, c.if-not-all_members.true))
 
 pub returns-then-not-rises : goal.returns-then-not-rises
 returns-then-not-rises c =
-    failed-count (past (goal.at.returns-then-not-rises c).Else-not-all_members ∙ rw (← c.rises.ensures, not-true c.rises.result c.if-not-rises.true-raw))
+    failed-count (past (goal.at.returns-then-not-rises c).Else-not-all_members ∙ rw (← c.rises.ensures, c.if-not-rises.true))
 
 pub returns : goal.returns
 returns c =
@@ -52,4 +51,4 @@ returns c =
     let rest : drop (2 * n + 1) ws ≡ drop (2 * count_in ws + 1) ws = ap (λ (k : ℕ). drop (2 * k + 1) ws) c.counted-n.ensures in
     let zero = c.zeros.ensures ∙ ap all_zero (take_all (length ws - (2 * n + 1)) (drop (2 * n + 1) ws) (simp length-drop (omega arith)) ∙ rest) in
     counted-tells (λ i. omega (arith, c.shared_slice_known-1.given i))
-    (zero ∙ sym (past (goal.at.returns c).Else-not-all_members ∙ rw (← c.rises.ensures, not-false c.rises.result c.if-not-rises.false-raw)))
+    (zero ∙ sym (past (goal.at.returns c).Else-not-all_members ∙ rw (← c.rises.ensures, c.if-not-rises.false)))

@@ -4,29 +4,11 @@ use Rattle.marking.proofs.Looking.{own_block, own-few}
 use native.Mathlib.Omega.{arith}
 use Rattle.marking.proofs.lack.lack_of.Goals as goal
 
-pub overflow_add-first : goal.overflow_add-first
-overflow_add-first c = omega (arith, c.requires.0.fit.few, c.requires.1)
-
-pub offset_bounds-links-first : goal.offset_bounds-links-first
-offset_bounds-links-first c = omega (arith, c.requires.0.fit.few, c.requires.1)
-
-pub bounds-links-first : goal.bounds-links-first
-bounds-links-first c = omega (arith, c.requires.0.fit.few, c.requires.1)
-
 pub loop-i-init : goal.loop-i-init
 loop-i-init c = leasting-start _ _ _ _ _ c.requires.0.fit.linked (omega (arith, c.requires.0.fit.few, c.requires.1))
 
 pub improve-best-requires : goal.improve-best-requires
 improve-best-requires c = ((c.requires.0.sets, c.requires.0.room), (own_block c.requires.0 _ c.loop-i-test.true, own-few c.requires.0 _ c.loop-i-test.true))
-
-pub overflow_add-next : goal.overflow_add-next
-overflow_add-next c = omega (arith, c.requires.0.fit.linked.few, c.loop-i-test.true)
-
-pub offset_bounds-links-next : goal.offset_bounds-links-next
-offset_bounds-links-next c = omega (arith, c.requires.0.fit.linked.few, c.loop-i-test.true)
-
-pub bounds-links-next : goal.bounds-links-next
-bounds-links-next c = omega (arith, c.requires.0.fit.linked.few, c.loop-i-test.true)
 
 pub loop-i-smaller : goal.loop-i-smaller
 loop-i-smaller c = let f = c.requires.0.fit.linked.nexts _ (omega arith) c.loop-i-test.true in omega (arith, f.above, f.below, c.loop-i-test.true)

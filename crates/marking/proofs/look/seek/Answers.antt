@@ -2,7 +2,6 @@
 use native.Mathlib.Omega.{arith}
 use Rattle.k_tuples.proofs.Held.{holds-set}
 use Rattle.decision.proofs.Apart.{set_room, set_holds}
-use Rattle.marking.proofs.Looking.{placed-block}
 use Rattle.marking.proofs.look.seek.Goals as goal
 
 pub overflow_mul-at : goal.overflow_mul-at
@@ -19,6 +18,3 @@ slice_bounds-seek_in-end c = omega (arith, set_room c.requires.0 _ c.requires.1)
 
 pub seek_in-requires : goal.seek_in-requires
 seek_in-requires c = holds-set (set_holds c.requires.0 _ c.requires.1)
-
-pub returns : goal.returns
-returns c = placed-block c.requires.0 _ c.requires.1 c.seek_in.ensures

@@ -1,10 +1,6 @@
 -- What the loop of `trees::collect::add_set` keeps.
 use Rattle.trees.proofs.Collecting.{Collecting}
-use Prim.Native.Nat.{◌-◌}
 use Rattle.trees.proofs.collect.add_set.Given as goal
 
 abbrev pub invariant-loop-i : goal.invariant-loop-i
 invariant-loop-i l = Collecting l.n l.production l.set l.initial.list l.list l.m l.i
-
-abbrev pub decreases-loop-i : goal.decreases-loop-i
-decreases-loop-i l = l.size - l.i

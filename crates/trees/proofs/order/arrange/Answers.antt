@@ -4,18 +4,9 @@ use mathlib.Core.Path.{◌≡◌}
 use lib.ListN.{length, take, drop}
 use mathlib.Core.List.{◌++◌}
 use native.Mathlib.Omega.{arith}
-use Rattle.trees.proofs.Arranging.{front-size, num-size, num-inside, in_order}
+use Rattle.trees.proofs.Arranging.{num-size, num-inside, in_order}
 use borrow.Author.Rules.{rules}
 use Rattle.trees.proofs.order.arrange.Goals as goal
-
-pub slice_bounds-count_up-end-2 : goal.slice_bounds-count_up-end-2
-slice_bounds-count_up-end-2 c = front-size _ _ (omega arith)
-
-pub count_up-requires : goal.count_up-requires
-count_up-requires c = let e = front-size c.args.order.now c.args.n (omega arith) in omega arith
-
-pub slice_bounds-sort-end-2 : goal.slice_bounds-sort-end-2
-slice_bounds-sort-end-2 c = let p = c.requires in let o = c.args.order.now in let n = c.args.n in let num = c.count_up.new.order in let h : n ≤ length o = omega arith in let e = c.count_up.ensures in num-size n o num h e
 
 pub sort-requires : goal.sort-requires
 sort-requires c = let p = c.requires in let o = c.args.order.now in let n = c.args.n in let num = c.count_up.new.order in let h : n ≤ length o = omega arith in let e = c.count_up.ensures in let z = num-size n o num h e in (p.0, (num-inside n o num h e, omega arith))

@@ -6,23 +6,8 @@ use Rattle.trees.proofs.order.count_up.Goals as goal
 pub loop-i-init : goal.loop-i-init
 loop-i-init c = search count-start
 
-pub overflow_cast-order : goal.overflow_cast-order
-overflow_cast-order c = omega arith
-
-pub offset_bounds-order-i : goal.offset_bounds-order-i
-offset_bounds-order-i c = omega arith
-
-pub overflow_add-i : goal.overflow_add-i
-overflow_add-i c = omega arith
-
-pub loop-i-smaller : goal.loop-i-smaller
-loop-i-smaller c = omega arith
-
 pub loop-i-preserved : goal.loop-i-preserved
-loop-i-preserved c = search count-more
-
-pub shape_of-order : goal.shape_of-order
-shape_of-order c = omega arith
+loop-i-preserved c = count-more _ _ _ c.loop-i.invariant (let e = c.loop-i.auto.order in omega arith)
 
 pub returns : goal.returns
-returns c = search count-end
+returns c = count-end _ _ _ c.loop-i.invariant (let e = c.loop-i.auto.order in omega arith)

@@ -1,11 +1,7 @@
 -- What the loop of `trees::order::count_up` keeps.
-use Prim.Native.Nat.{◌-◌}
 use lib.ListN.{length}
 use Rattle.trees.proofs.Arranging.{Counting}
 use Rattle.trees.proofs.order.count_up.Given as goal
 
 abbrev pub invariant-loop-i : goal.invariant-loop-i
 invariant-loop-i l = Counting (length l.initial.order) l.order l.i
-
-abbrev pub decreases-loop-i : goal.decreases-loop-i
-decreases-loop-i l = length l.initial.order - l.i

@@ -1,5 +1,4 @@
 -- `trees::order::left_next` meets its contract. Assumes nothing.
-use native.Mathlib.Omega.{arith}
 use borrow.Author.Rules.{rules}
 use Rattle.trees.proofs.Arranging.{inside-at, next-none, next-left, next_both}
 use Rattle.trees.proofs.order.left_next.Goals as goal
@@ -10,14 +9,8 @@ returns-then-left-i c = search next-none
 pub returns-then-right-j : goal.returns-then-right-j
 returns-then-right-j c = search next-left
 
-pub overflow_cast-x : goal.overflow_cast-x
-overflow_cast-x c = omega (arith, c.type_inv.left c.args.i)
-
-pub overflow_cast-y : goal.overflow_cast-y
-overflow_cast-y c = omega (arith, c.type_inv.right c.args.j)
-
 pub not_after-requires : goal.not_after-requires
 not_after-requires c = search (rules, inside-at)
 
 pub returns : goal.returns
-returns c = search next_both
+returns c = let e = rw (c.from-x.ensures, c.from-y.ensures) at c.not_after.ensures in search next_both

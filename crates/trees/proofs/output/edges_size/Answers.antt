@@ -6,12 +6,6 @@ use Rattle.trees.proofs.output.edges_size.Goals as goal
 pub loop-c-init : goal.loop-c-init
 loop-c-init c = search edges-start
 
-pub offset_bounds-queue-c : goal.offset_bounds-queue-c
-offset_bounds-queue-c c = omega arith
-
-pub bounds-queue-c : goal.bounds-queue-c
-bounds-queue-c c = omega arith
-
 pub reached_by-requires : goal.reached_by-requires
 reached_by-requires c = let g = c.loop-c.invariant in (c.requires.0, c.requires.1.deep _ g.low (omega arith))
 
@@ -20,12 +14,6 @@ overflow_add-total c = let g = c.loop-c.invariant in let m = g.most in let f = c
 
 pub overflow_add-total-in-loop-c : goal.overflow_add-total-in-loop-c
 overflow_add-total-in-loop-c c = let g = c.loop-c.invariant in let m = g.most in let f = c.requires.1.few in let a = size-most _ _ c.size_of-by.ensures in let b = size-most _ _ c.size_of-at.ensures in omega arith
-
-pub overflow_add-c : goal.overflow_add-c
-overflow_add-c c = omega arith
-
-pub loop-c-smaller : goal.loop-c-smaller
-loop-c-smaller c = omega arith
 
 pub loop-c-preserved : goal.loop-c-preserved
 loop-c-preserved c = search edges-turn

@@ -1,10 +1,6 @@
 -- What the loop of `trees::output::put_edges` keeps.
 use Rattle.trees.proofs.Writing.{EdgesPut}
-use Prim.Native.Nat.{◌-◌}
 use Rattle.trees.proofs.output.put_edges.Given as goal
 
 abbrev pub invariant-loop-c : goal.invariant-loop-c
 invariant-loop-c l = EdgesPut l.list l.queue l.from l.to l.initial.bytes l.at l.bytes l.place l.c
-
-abbrev pub decreases-loop-c : goal.decreases-loop-c
-decreases-loop-c l = l.to - l.c

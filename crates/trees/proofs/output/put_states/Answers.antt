@@ -8,18 +8,6 @@ use Rattle.trees.proofs.output.put_states.Goals as goal
 pub loop-s-init : goal.loop-s-init
 loop-s-init c = states-put-start _ _ _ _ _ _ _ c.requires.1.0
 
-pub offset_bounds-queue-s : goal.offset_bounds-queue-s
-offset_bounds-queue-s c = let w = c.requires.1.0 in let g = c.loop-s.invariant in let st = g.standing in let f = w.few in let q = w.queue-room in let r = w.kids-room in omega arith
-
-pub bounds-queue-s : goal.bounds-queue-s
-bounds-queue-s c = let w = c.requires.1.0 in let g = c.loop-s.invariant in let st = g.standing in let f = w.few in let q = w.queue-room in let r = w.kids-room in omega arith
-
-pub offset_bounds-kids-s : goal.offset_bounds-kids-s
-offset_bounds-kids-s c = let w = c.requires.1.0 in let g = c.loop-s.invariant in let st = g.standing in let f = w.few in let q = w.queue-room in let r = w.kids-room in omega arith
-
-pub bounds-kids-s : goal.bounds-kids-s
-bounds-kids-s c = let w = c.requires.1.0 in let g = c.loop-s.invariant in let st = g.standing in let f = w.few in let q = w.queue-room in let r = w.kids-room in omega arith
-
 pub overflow_add-end : goal.overflow_add-end
 overflow_add-end c = let w = c.requires.1.0 in let g = c.loop-s.invariant in let st = g.standing in let f = w.few in let q = w.queue-room in let r = w.kids-room in let k = kid-small _ _ _ _ _ _ _ w st c.loop-s-test.true in let i = c.index.ensures in omega arith
 
@@ -32,17 +20,8 @@ put_pair-place-requires c = let w = c.requires.1.0 in let g = c.loop-s.invariant
 pub put_edges-place-requires : goal.put_edges-place-requires
 put_edges-place-requires c = let w = c.requires.1.0 in let g = c.loop-s.invariant in (c.requires.0, (standing-edges _ _ _ _ _ _ _ _ w g.standing c.loop-s-test.true (ap (λ (k : ℕ). c.loop-s.next + k) c.index.ensures), tail-room _ _ _ _ _ _ _ _ _ _ _ _ (head-put _ _ _ _ _ _ _ _ _ _ _ c.loop-s.invariant c.loop-s-test.true _ (ap (λ (k : ℕ). c.loop-s.next + k) c.index.ensures) _ c.accepting-production.ensures _ _ c.put_pair-place.ensures) c.requires.1.1))
 
-pub overflow_add-s : goal.overflow_add-s
-overflow_add-s c = let w = c.requires.1.0 in let g = c.loop-s.invariant in let st = g.standing in let f = w.few in let q = w.queue-room in let r = w.kids-room in omega arith
-
-pub loop-s-smaller : goal.loop-s-smaller
-loop-s-smaller c = let w = c.requires.1.0 in let g = c.loop-s.invariant in let st = g.standing in let f = w.few in let q = w.queue-room in let r = w.kids-room in omega arith
-
 pub loop-s-preserved : goal.loop-s-preserved
 loop-s-preserved c = tail-put _ _ _ _ _ _ _ _ _ _ _ _ (head-put _ _ _ _ _ _ _ _ _ _ _ c.loop-s.invariant c.loop-s-test.true _ (ap (λ (k : ℕ). c.loop-s.next + k) c.index.ensures) _ c.accepting-production.ensures _ _ c.put_pair-place.ensures) c.loop-s.invariant.standing c.loop-s-test.true (ap (λ (k : ℕ). c.loop-s.next + k) c.index.ensures) _ _ c.put_edges-place.ensures
-
-pub shape_of-bytes : goal.shape_of-bytes
-shape_of-bytes c = c.loop-s.invariant.run.same
 
 pub returns : goal.returns
 returns c = states-put-end _ _ _ _ _ _ _ _ _ _ _ c.loop-s.invariant (omega arith)

@@ -8,18 +8,6 @@ use Rattle.trees.proofs.output.states_size.Goals as goal
 pub loop-s-init : goal.loop-s-init
 loop-s-init c = search measure-start
 
-pub offset_bounds-queue-s : goal.offset_bounds-queue-s
-offset_bounds-queue-s c = let w = c.requires.1 in let g = c.loop-s.invariant in let st = g.at in let f = w.few in let q = w.queue-room in let r = w.kids-room in omega arith
-
-pub bounds-queue-s : goal.bounds-queue-s
-bounds-queue-s c = let w = c.requires.1 in let g = c.loop-s.invariant in let st = g.at in let f = w.few in let q = w.queue-room in let r = w.kids-room in omega arith
-
-pub offset_bounds-kids-s : goal.offset_bounds-kids-s
-offset_bounds-kids-s c = let w = c.requires.1 in let g = c.loop-s.invariant in let st = g.at in let f = w.few in let q = w.queue-room in let r = w.kids-room in omega arith
-
-pub bounds-kids-s : goal.bounds-kids-s
-bounds-kids-s c = let w = c.requires.1 in let g = c.loop-s.invariant in let st = g.at in let f = w.few in let q = w.queue-room in let r = w.kids-room in omega arith
-
 pub overflow_add-end : goal.overflow_add-end
 overflow_add-end c = let w = c.requires.1 in let g = c.loop-s.invariant in let st = g.at in let f = w.few in let q = w.queue-room in let r = w.kids-room in let k = kid-small _ _ _ _ _ _ _ w st c.loop-s-test.true in let i = c.index.ensures in omega arith
 
@@ -37,12 +25,6 @@ edges_size-requires c = let w = c.requires.1 in let g = c.loop-s.invariant in (c
 
 pub overflow_add-total-in-loop-s : goal.overflow_add-total-in-loop-s
 overflow_add-total-in-loop-s c = let w = c.requires.1 in let g = c.loop-s.invariant in let st = g.at in let f = w.few in let q = w.queue-room in let r = w.kids-room in let k = kid-small _ _ _ _ _ _ _ w st c.loop-s-test.true in let i = c.index.ensures in let m = g.most in let a = size-most _ _ c.size_of.ensures in let b = size-most _ _ c.size_of-in-loop-s.ensures in let e = c.edges_size.ensures.most in omega arith
-
-pub overflow_add-s : goal.overflow_add-s
-overflow_add-s c = let w = c.requires.1 in let g = c.loop-s.invariant in let st = g.at in let f = w.few in let q = w.queue-room in let r = w.kids-room in omega arith
-
-pub loop-s-smaller : goal.loop-s-smaller
-loop-s-smaller c = let w = c.requires.1 in let g = c.loop-s.invariant in let st = g.at in let f = w.few in let q = w.queue-room in let r = w.kids-room in omega arith
 
 pub loop-s-preserved : goal.loop-s-preserved
 loop-s-preserved c = let w = c.requires.1 in let g = c.loop-s.invariant in measure-turn _ _ _ _ _ _ _ _ _ g c.loop-s-test.true (ap (λ (k : ℕ). c.loop-s.next + k) c.index.ensures) _ _ _ _ c.accepting.ensures c.size_of.ensures c.size_of-in-loop-s.ensures c.edges_size.ensures

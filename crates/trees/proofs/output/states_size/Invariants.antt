@@ -1,10 +1,6 @@
 -- What the loop of `trees::output::states_size` keeps.
 use Rattle.trees.proofs.Writing.{StatesMeasured}
-use Prim.Native.Nat.{◌-◌}
 use Rattle.trees.proofs.output.states_size.Given as goal
 
 abbrev pub invariant-loop-s : goal.invariant-loop-s
 invariant-loop-s l = StatesMeasured l.list l.n l.m l.queue l.kids l.total l.next l.s
-
-abbrev pub decreases-loop-s : goal.decreases-loop-s
-decreases-loop-s l = l.m - l.s

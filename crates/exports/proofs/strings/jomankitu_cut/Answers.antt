@@ -1,6 +1,0 @@
--- `exports::strings::jomankitu_cut` meets its contract. Assumes nothing.
-use Rattle.exports.proofs.Telling.{named-told}
-use Rattle.exports.proofs.strings.jomankitu_cut.Goals as goal
-
-pub returns : goal.returns
-returns c = search named-told

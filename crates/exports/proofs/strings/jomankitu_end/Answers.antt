@@ -1,6 +1,0 @@
--- `exports::strings::jomankitu_end` meets its contract. Assumes nothing.
-use Rattle.exports.proofs.Telling.{named-told}
-use Rattle.exports.proofs.strings.jomankitu_end.Goals as goal
-
-pub returns : goal.returns
-returns c = search named-told

@@ -1,6 +1,0 @@
--- The bytes that were put so far wait.
-use Rattle.lines.specs.Waits.{Waits}
-use Rattle.lines.proofs.sets.put_slots.Given as goal
-
-abbrev pub invariant-loop-i : goal.invariant-loop-i
-invariant-loop-i g l = Waits l.next l.out
