@@ -15,7 +15,7 @@ import sys
 
 # the walk for left corners goes at most n + 1 deep for n nonterminals, of which there are at most 128, and that is proved; a list of at most 2,048 strings
 # is halved until one or none is left
-DEPTHS = {"cfg::accept::walk_from": 129, "trees::order::sort": 12}
+DEPTHS = {"cfg::accept::visit_corners": 129, "trees::order::sort": 12}
 
 
 def disassembly(archive):
