@@ -5,7 +5,7 @@ ghost use Rattle.std.specs.Prelude.{◌≡◌, ◌+◌, ◌≤◌, length};
 ghost use Rattle.abnf_tables.specs.Words.{word_at};
 ghost use Rattle.abnf_tables.specs.Says.{tables_of};
 ghost use Rattle.abnf_names.specs.Parts.{word_part, name_numbered, state_after, opens, group_part, nonterminal_in, terminal_in, nonterminal_part, terminal_part, Inside};
-ghost use Rattle.abnf_names.specs.Noted.{part_says, state_number};
+ghost use Rattle.abnf_names.specs.Noted.{part_says, Given, state_number};
 
 use abnf_rules::machine::scan;
 use abnf_tables::tables::Notes;
@@ -153,16 +153,29 @@ fn terminal_in(text: &[u8], notes: &Notes, number: u16) -> Option<TextPart>
     None
 }
 
+// No part where the bytes are none and stand at the text's beginning.
+fn given(p: Option<TextPart>) -> Option<TextPart>
+    ensures says { part_says result ≡ part_says p }
+    ensures given { Given result }
+{
+    match p {
+        Some(TextPart { start: 0, end: 0 }) => None,
+        Some(part) => Some(part),
+        None => None,
+    }
+}
+
 // The part of the text that names a nonterminal: the name of its rule where that first appears, or "[" of its group.
 pub fn nonterminal_part(text: &[u8], number: u16) -> Option<TextPart>
     ensures says { part_says result ≡ nonterminal_part text.now number }
     ensures inside { Inside text.now (part_says result) }
+    ensures given { Given result }
 {
     let mut notes = Notes::new();
     if scan(text, &mut notes).is_err() {
         return None;
     }
-    nonterminal_in(text, &notes, number)
+    given(nonterminal_in(text, &notes, number))
 }
 
 // Kept: beside `nonterminal_part`. A terminal has one form and no group, and the definitions of the two have nothing in common but the reading.
@@ -170,10 +183,11 @@ pub fn nonterminal_part(text: &[u8], number: u16) -> Option<TextPart>
 pub fn terminal_part(text: &[u8], number: u16) -> Option<TextPart>
     ensures says { part_says result ≡ terminal_part text.now number }
     ensures inside { Inside text.now (part_says result) }
+    ensures given { Given result }
 {
     let mut notes = Notes::new();
     if scan(text, &mut notes).is_err() {
         return None;
     }
-    terminal_in(text, &notes, number)
+    given(terminal_in(text, &notes, number))
 }

@@ -146,7 +146,7 @@ fn try_all(
     }
 }
 
-// KAnswers every nonterminal, in buffers that are wiped at the end.
+// Answers every nonterminal, in buffers that are wiped at the end.
 fn answer_all(
     limit: u64,
     c: u64,

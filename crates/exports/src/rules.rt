@@ -74,6 +74,7 @@ pub fn jomankitu_nonterminal_part(text: &[u8], number: u64, out: &mut [u64]) -> 
     tell(out, 0, &words)
 }
 
+// Kept: beside the one for a nonterminal, as in `abnf_names`; C calls both by their names.
 // Where in a text the literal of a terminal is, without its quotes, and its length, in two words; 0 and 0 where there is none.
 pub fn jomankitu_terminal_part(text: &[u8], number: u64, out: &mut [u64]) -> u64
     ensures { Told 2 (gives (part_words (terminal_part text.now number))) out.old result

@@ -1,4 +1,7 @@
 -- `nonterminal_part` meets its contract. Assumes nothing.
+use mathlib.Core.Path.{◌≡◌, sym, ◌∙◌, subst}
+use Rattle.abnf_names.specs.Noted.{part_says}
+use Rattle.abnf_names.specs.Parts.{Inside, nonterminal_part}
 use Rattle.abnf_names.proofs.PartLaws.{none_inside, refused-nonterminal, whole-nonterminal, nonterminal-in-text, names-few}
 use Rattle.abnf_names.proofs.nonterminal_part.Goals as goal
 
@@ -12,7 +15,11 @@ pub nonterminal_in-requires : goal.nonterminal_in-requires
 nonterminal_in-requires c = search names-few
 
 pub returns-clause-says : goal.returns-clause-says
-returns-clause-says c = search whole-nonterminal
+returns-clause-says c =
+    let h : part_says c.nonterminal_in.result ≡ nonterminal_part c.args.text.now c.args.number = search whole-nonterminal in
+    c.given.ensures.says ∙ h
 
 pub returns-clause-inside : goal.returns-clause-inside
-returns-clause-inside c = search nonterminal-in-text
+returns-clause-inside c =
+    let h : Inside c.args.text.now (part_says c.nonterminal_in.result) = search nonterminal-in-text in
+    subst (Inside c.args.text.now) (sym c.given.ensures.says) h
