@@ -46,7 +46,7 @@ pub use abnf_names::nonterminal_part;
 pub use abnf_names::terminal_part;
 
 // ---- FIRST and FOLLOW of a table
-// What the call answers: a refusal or 0, the sizes, the width, and the rounds.
+// What the call answers where it does not refuse: the sizes, the width, and the rounds.
 pub use engine::Lookahead;
 // The part of a result that holds one set, by kind and number.
 pub use engine::ask::set_of;
