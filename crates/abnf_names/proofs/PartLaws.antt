@@ -14,17 +14,18 @@ use Rattle.abnf_tables.specs.Run.{Run, on, refused}
 use Rattle.abnf_tables.specs.Words.{word, word_at, rank}
 use Rattle.abnf_tables.specs.Tables.{Tables}
 use Rattle.abnf_tables.specs.Says.{tables_of, tables_say, Sane, SaneBuilt, HeadIs, no_byte, a_byte}
+use Rattle.abnf_tables.specs.declared.tables.Counts.{Counts}
 use Rattle.abnf_tables.specs.declared.tables.Notes.{Notes}
 use Rattle.std.specs.Result.{is_err}
 use Rattle.abnf_tables.specs.declared.refused.Refused.{Refused}
-use Rattle.std.specs.Prelude.{Result, Ok, Err}
+use Rattle.std.specs.Prelude.{Result, Ok, Err, Option, None}
 use Rattle.abnf_names.specs.declared.Within.{Within}
 use Rattle.abnf_names.specs.declared.Within.TheVariants.{Rule}
 use Rattle.abnf_tables.proofs.WordLaws.{drop_past}
 use Rattle.abnf_rules.specs.Machine.{scanned, start}
 use Rattle.abnf_names.specs.declared.TextPart.{TextPart}
 use Rattle.abnf_names.specs.Parts.{part, no_part, word_part, name_numbered, state_after, opens, group_part, nonterminal_in, terminal_in, part_of, nonterminal_part, terminal_part, Inside}
-use Rattle.abnf_names.specs.Noted.{state_number}
+use Rattle.abnf_names.specs.Noted.{part_says, NonterminalIn, TerminalIn, state_number}
 
 -- ---- the end of a word
 
@@ -171,41 +172,41 @@ terminal-inside text x = by (scanned text 0 text start)
 
 -- ---- what is noted
 
-module _ (text : List ℕ) (n : Notes) (i : ℕ) (few : n.counts.names + n.counts.groups ≤ 128) (room : length n.names ≡ 128) where
-  names-length : length (take n.counts.names n.names) ≡ n.counts.names
-  names-length = length-take-le n.counts.names n.names (omega arith)
+module _ (text ns : List ℕ) (c : Counts) (i : ℕ) (asked : (c.names + c.groups ≤ 128) × (c.names ≤ length ns)) where
+  names-length : length (take c.names ns) ≡ c.names
+  names-length = length-take-le c.names ns asked.1
 
-  pub by_name : i < n.counts.names → (k : ℕ) → k ≡ n.counts.names → (r : TextPart) → r ≡ name_numbered text (take k n.names) i (take k n.names) → r ≡ nonterminal_in text i (tables_of n)
+  pub by_name : i < c.names → (k : ℕ) → k ≡ c.names → (r : Option TextPart) → part_says r ≡ name_numbered text (take k ns) i (take k ns) → NonterminalIn text c i r ns
   unfolding nonterminal_in
-  by_name h k e r f = rw (names-length, lt-ltb i n.counts.names h, ← e) f
+  by_name h k e r f = record { says = λ t names groups. rw (names, groups, names-length, lt-ltb i c.names h, ← e) f }
 
-  module _ (h : n.counts.names ≤ i) where
-    pub by-group : i < n.counts.names + n.counts.groups → (r : TextPart) → r ≡ group_part 0 (i - n.counts.names) 0 text → r ≡ nonterminal_in text i (tables_of n)
+  module _ (h : c.names ≤ i) where
+    pub by-group : i < c.names + c.groups → (r : Option TextPart) → part_says r ≡ group_part 0 (i - c.names) 0 text → NonterminalIn text c i r ns
     unfolding nonterminal_in
-    by-group k r f = rw (names-length, le-ltb i n.counts.names h, lt-ltb i (n.counts.names + n.counts.groups) k) f
+    by-group k r f = record { says = λ t names groups. rw (names, groups, names-length, le-ltb i c.names h, lt-ltb i (c.names + c.groups) k) f }
 
-    pub by-none : n.counts.names + n.counts.groups ≤ i → no_part ≡ nonterminal_in text i (tables_of n)
+    pub by-none : c.names + c.groups ≤ i → NonterminalIn text c i None ns
     unfolding nonterminal_in
-    by-none k = rw (names-length, le-ltb i n.counts.names h, le-ltb i (n.counts.names + n.counts.groups) k)
+    by-none k = record { says = λ t names groups. rw (names, groups, names-length, le-ltb i c.names h, le-ltb i (c.names + c.groups) k) }
 
-module _ (text : List ℕ) (n : Notes) (x : ℕ) where
-  pub low-number : x < 5 → no_part ≡ terminal_in text x (tables_of n)
+module _ (text ls : List ℕ) (c : Counts) (x : ℕ) where
+  pub low-number : x < 5 → TerminalIn text c x None ls
   unfolding terminal_in
-  low-number h = rw (lt-leb 5 x h)
+  low-number h = record { says = λ t literals. rw (lt-leb 5 x h) }
 
-  module _ (few : n.counts.literals ≤ 4089) (room : length n.literals ≡ 4089) (h : 5 ≤ x) where
-    literals-length : length (take n.counts.literals n.literals) ≡ n.counts.literals
-    literals-length = length-take-le n.counts.literals n.literals (omega arith)
+  module _ (room : c.literals ≤ length ls) (h : 5 ≤ x) where
+    literals-length : length (take c.literals ls) ≡ c.literals
+    literals-length = length-take-le c.literals ls room
 
-    pub by-literal : x - 5 < n.counts.literals → (k from : ℕ) → k ≡ x - 5 → from ≡ get_or n.literals k 0 → (r : TextPart) → r ≡ word_part true text from → r ≡ terminal_in text x (tables_of n)
+    pub by-literal : x - 5 < c.literals → (k from : ℕ) → k ≡ x - 5 → from ≡ get_or ls k 0 → (r : Option TextPart) → part_says r ≡ word_part true text from → TerminalIn text c x r ls
     unfolding terminal_in
     by-literal l k from f g r u =
-        let s : get_or (take n.counts.literals n.literals) (x - 5) 0 ≡ from = get_or-take n.counts.literals n.literals (x - 5) 0 l ∙ rw (← f) (sym g) in
-        rw (le-leb 5 x h, literals-length, s, lt-ltb (x - 5) n.counts.literals l) u
+        let s : get_or (take c.literals ls) (x - 5) 0 ≡ from = get_or-take c.literals ls (x - 5) 0 l ∙ rw (← f) (sym g) in
+        record { says = λ t literals. rw (literals, le-leb 5 x h, literals-length, s, lt-ltb (x - 5) c.literals l) u }
 
-    pub high-number : n.counts.literals ≤ x - 5 → no_part ≡ terminal_in text x (tables_of n)
+    pub high-number : c.literals ≤ x - 5 → TerminalIn text c x None ls
     unfolding terminal_in
-    high-number l = rw (le-leb 5 x h, literals-length, le-ltb (x - 5) n.counts.literals l)
+    high-number l = record { says = λ t literals. rw (literals, le-leb 5 x h, literals-length, le-ltb (x - 5) c.literals l) }
 
 -- ---- the whole text
 
@@ -234,18 +235,18 @@ module _ (text : List ℕ) (n : Notes) (b : Result (Unit {0}) Refused) (says : t
         by (Ok u) z = refl
         by (Err x) z = cc
 
-    pub whole-nonterminal : (r : TextPart) → r ≡ nonterminal_in text i (tables_of n) → r ≡ nonterminal_part text i
+    pub whole-nonterminal : (r : Option TextPart) → NonterminalIn text n.counts i r n.names → part_says r ≡ nonterminal_part text i
     unfolding nonterminal_part
-    whole-nonterminal r w = rw (← says, done) w
+    whole-nonterminal r w = rw (← says, done) (w.says (tables_of n) refl refl)
 
-    pub whole-terminal : (r : TextPart) → r ≡ terminal_in text i (tables_of n) → r ≡ terminal_part text i
+    pub whole-terminal : (r : Option TextPart) → TerminalIn text n.counts i r n.literals → part_says r ≡ terminal_part text i
     unfolding terminal_part
-    whole-terminal r w = rw (← says, done) w
+    whole-terminal r w = rw (← says, done) (w.says (tables_of n) refl)
 
-    pub nonterminal-in-text : (r : TextPart) → r ≡ nonterminal_in text i (tables_of n) → Inside text r
+    pub nonterminal-in-text : (r : Option TextPart) → NonterminalIn text n.counts i r n.names → Inside text (part_says r)
     nonterminal-in-text r w = rw (whole-nonterminal r w) (nonterminal-inside text i)
 
-    pub terminal-in-text : (r : TextPart) → r ≡ terminal_in text i (tables_of n) → Inside text r
+    pub terminal-in-text : (r : Option TextPart) → TerminalIn text n.counts i r n.literals → Inside text (part_says r)
     terminal-in-text r w = rw (whole-terminal r w) (terminal-inside text i)
 
     module _ (sane : SaneBuilt 0 b n) where
@@ -261,3 +262,9 @@ module _ (text : List ℕ) (n : Notes) (b : Result (Unit {0}) Refused) (says : t
 
       pub literals-few : n.counts.literals ≤ 4089
       literals-few = kept.literals
+
+      pub names-inside : length n.names ≡ 128 → n.counts.names ≤ length n.names
+      names-inside room = let few = names-few in omega arith
+
+      pub literals-inside : length n.literals ≡ 4089 → n.counts.literals ≤ length n.literals
+      literals-inside room = let few = literals-few in omega arith

@@ -3,12 +3,11 @@
 
 ghost use Rattle.std.specs.Prelude.{◌≡◌, ◌+◌, ◌≤◌, length};
 ghost use Rattle.abnf_tables.specs.Words.{word_at};
-ghost use Rattle.abnf_tables.specs.Says.{tables_of};
-ghost use Rattle.abnf_names.specs.Parts.{word_part, name_numbered, state_after, opens, group_part, nonterminal_in, terminal_in, nonterminal_part, terminal_part, Inside};
-ghost use Rattle.abnf_names.specs.Noted.{part_says, Given, state_number};
+ghost use Rattle.abnf_names.specs.Parts.{word_part, name_numbered, state_after, opens, group_part, nonterminal_part, terminal_part, Inside};
+ghost use Rattle.abnf_names.specs.Noted.{part_says, NonterminalIn, TerminalIn, Given, state_number};
 
 use abnf_rules::machine::scan;
-use abnf_tables::tables::Notes;
+use abnf_tables::tables::{Counts, Notes};
 use abnf_tables::words::{head_of, rank_of};
 
 // The bytes of a text from `start` up to `end`.
@@ -121,15 +120,14 @@ fn group_part(text: &[u8], g: u16) -> Option<TextPart>
     None
 }
 
-// The part that names a nonterminal, by what was noted of the rules.
-fn nonterminal_in(text: &[u8], notes: &Notes, number: u16) -> Option<TextPart>
-    requires { notes.now.counts.names + notes.now.counts.groups ≤ 128 }
-    ensures { part_says result ≡ nonterminal_in text.now number (tables_of notes.now) }
+// The part that names a nonterminal, by the names that were noted of the rules.
+pub fn nonterminal_in(text: &[u8], c: Counts, names: &[u16], number: u16) -> Option<TextPart>
+    requires { (c.names + c.groups ≤ 128) × (c.names ≤ length names.now) }
+    ensures { NonterminalIn text.now c number result names.now }
 {
-    let c = notes.counts;
     if number < c.names {
         let end = usize::from(c.names);
-        return name_numbered(text, &notes.names[..end], number);
+        return name_numbered(text, &names[..end], number);
     }
     if number < c.names + c.groups {
         return group_part(text, number - c.names);
@@ -137,17 +135,17 @@ fn nonterminal_in(text: &[u8], notes: &Notes, number: u16) -> Option<TextPart>
     None
 }
 
-// The part that names a terminal, by what was noted of the rules.
-fn terminal_in(text: &[u8], notes: &Notes, number: u16) -> Option<TextPart>
-    requires { notes.now.counts.literals ≤ 4089 }
-    ensures { part_says result ≡ terminal_in text.now number (tables_of notes.now) }
+// The part that names a terminal, by the literals that were noted.
+pub fn terminal_in(text: &[u8], c: Counts, literals: &[u16], number: u16) -> Option<TextPart>
+    requires { c.literals ≤ length literals.now }
+    ensures { TerminalIn text.now c number result literals.now }
 {
     if number < 5 {
         return None;
     }
     let x = number - 5;
-    if x < notes.counts.literals {
-        let from = usize::from(notes.literals[usize::from(x)]);
+    if x < c.literals {
+        let from = usize::from(literals[usize::from(x)]);
         return word_part(text, true, from);
     }
     None
@@ -175,7 +173,7 @@ pub fn nonterminal_part(text: &[u8], number: u16) -> Option<TextPart>
     if scan(text, &mut notes).is_err() {
         return None;
     }
-    given(nonterminal_in(text, &notes, number))
+    given(nonterminal_in(text, notes.counts, &notes.names, number))
 }
 
 // Kept: beside `nonterminal_part`. A terminal has one form and no group, and the definitions of the two have nothing in common but the reading.
@@ -189,5 +187,5 @@ pub fn terminal_part(text: &[u8], number: u16) -> Option<TextPart>
     if scan(text, &mut notes).is_err() {
         return None;
     }
-    given(terminal_in(text, &notes, number))
+    given(terminal_in(text, notes.counts, &notes.literals, number))
 }

@@ -2,11 +2,11 @@
 // behind a quote twice; names and literals are compared where they end.
 ghost use Rattle.std.specs.Prelude.{◌≡◌, List, ℕ, ◌+◌, ◌≤◌, ◌<◌};
 ghost use Rattle.abnf_rules.specs.Machine.{breaks, broken, begins, behind, spaced, wanted, equals, empty, longer, inside, whole, fresh, step, scanned, start};
-ghost use Rattle.abnf_tables.specs.Says.{tables_of, tables_say, no_counts, Sane, SaneBuilt};
+ghost use Rattle.abnf_tables.specs.Says.{tables_of, tables_say, Sane, SaneBuilt};
 ghost use Rattle.abnf_rules.specs.Steps.{SaneIn, ThenTo, Stays, Steps, break_line, Finishes};
 
 use abnf_tables::refused::{Refused, refuse};
-use abnf_tables::tables::Notes;
+use abnf_tables::tables::{Counts, Notes};
 use abnf_tables::words::{
     byte_at, is_blank, is_comment_byte, is_letter, is_literal_byte, is_name_byte,
 };
@@ -338,12 +338,12 @@ fn finish(at: u16, state: Next, notes: &Notes) -> Result<(), Refused>
     }
 }
 
-// The whole text, with nothing noted before.
+// The whole text. What was noted before is forgotten.
 pub fn scan(text: &[u8], notes: &mut Notes) -> Result<(), Refused>
-    requires { notes.old.counts ≡ no_counts }
     ensures says { tables_say result notes.new ≡ scanned text.now 0 text.now start }
     ensures sane { SaneBuilt 0 result notes.new }
 {
+    notes.counts = Counts::default();
     let mut state = Next {
         line: Line::Ended,
         mode: Mode::Blank,

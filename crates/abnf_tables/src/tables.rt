@@ -8,7 +8,7 @@ use crate::words::find_in;
 use refusals::Refusal;
 
 // How much of each list is in use; the groups, the productions and the symbols so far; the left side in hand, and the symbols of its alternative in hand.
-#[derive(Clone, Copy)]
+#[derive(Clone, Copy, Default)]
 pub struct Counts {
     pub names: u16,
     pub literals: u16,
@@ -41,17 +41,7 @@ impl Notes {
             literals: [0; 4089],
             lefts: [0; 128],
             items: [0; 4608],
-            counts: Counts {
-                names: 0,
-                literals: 0,
-                lefts: 0,
-                items: 0,
-                groups: 0,
-                productions: 0,
-                symbols: 0,
-                left: 0,
-                size: 0,
-            },
+            counts: Counts::default(),
         }
     }
 
@@ -276,7 +266,7 @@ pub fn is_among(k: u16, list: &[u16], count: u16) -> bool
 }
 
 // The left side in hand: k for the rule of name k, 128 + g for the group g.
-fn left_in_hand(lefts: &[u16], count: u16, left: u16) -> u16
+pub fn left_in_hand(lefts: &[u16], count: u16, left: u16) -> u16
     requires { count ≤ length lefts.now }
     ensures { result ≡ get_or (take count lefts.now) left 0 }
 {

@@ -24,6 +24,11 @@ abbrev pub says : Result (Read ℕ) Refusal → Reading ℕ
 says (Ok read) = got read.value read.next
 says (Err e) = refused (number_of e)
 
+-- the same where a refusal is told by any number
+abbrev pub says_number : Result (Read ℕ) ℕ → Reading ℕ
+says_number (Ok read) = got read.value read.next
+says_number (Err r) = refused r
+
 number-one-group : number (5 ∷ 7 ∷ []) 0 ≡ got 5 1
 number-one-group = refl
 

@@ -1,7 +1,7 @@
 // The grammar table's reader.
 ghost use Rattle.std.specs.Prelude.{◌≡◌, ◌+◌, ◌-◌, ◌*◌, ◌≤◌, ◌<◌, ◌&&◌, leb, ltb, [], map, length, take, drop};
 ghost use Rattle.refusals.specs.Numbers.{number as number_of};
-ghost use Rattle.cfg.specs.Number.{number, says};
+ghost use Rattle.cfg.specs.Number.{number, says, says_number};
 ghost use Rattle.cfg.specs.Table.{field, symbol, symbols, production, productions, header, read_table, says_words, header_says, table_says, HeaderInside, TableSound, UsesBetween};
 ghost use Rattle.cfg.specs.Words.{Sound, SoundHead, SpanAt};
 ghost use Rattle.cfg.specs.Written.{symbol_of, productions_of, nonterminals, occurrences};
@@ -75,8 +75,37 @@ pub fn read_number(table: &[u8], at: usize) -> Result<Read<u16>, Refusal>
     })
 }
 
-// A number from `least` to `most`; one outside them is refused by `refusal`.
+// Whether a number lies from `least` to `most`.
+fn is_within(v: u16, least: u16, most: u16) -> bool
+    ensures { result ≡ (leb least v && leb v most) }
+{
+    least <= v && v <= most
+}
+
+// A number from `least` to `most`; one outside them is refused by the number `refusal`, whatever that is. The table's own reader says which `Refusal`.
 pub fn read_field(
+    table: &[u8],
+    refusal: u64,
+    least: u16,
+    most: u16,
+    at: usize,
+) -> Result<Read<u16>, u64>
+    ensures { says_number result ≡ field table.now refusal least most at }
+{
+    match read_number(table, at) {
+        Ok(read) => {
+            if is_within(read.value, least, most) {
+                Ok(read)
+            } else {
+                Err(refusal)
+            }
+        }
+        Err(e) => Err(u64::from(e)),
+    }
+}
+
+// A number from `least` to `most`; one outside them is refused by `refusal`.
+fn read_within(
     table: &[u8],
     refusal: Refusal,
     least: u16,
@@ -86,7 +115,7 @@ pub fn read_field(
     ensures { says result ≡ field table.now (number_of refusal) least most at }
 {
     let read = read_number(table, at)?;
-    if read.value < least || most < read.value {
+    if !is_within(read.value, least, most) {
         return Err(refusal);
     }
     Ok(read)
@@ -147,9 +176,9 @@ pub fn read_production(
     ensures reads { says_words result words.new ≡ production table.now shape.n shape.t total (take used words.old) at }
     ensures uses { UsesBetween result (used + 2) (used + 2 + (4096 - total)) }
 {
-    let left = read_field(table, Refusal::SymbolOutside, 0, shape.n - 1, at)?;
+    let left = read_within(table, Refusal::SymbolOutside, 0, shape.n - 1, at)?;
     let most = u16::min(64, 4096 - total);
-    let size = read_field(table, Refusal::CountOutside, 0, most, left.next)?;
+    let size = read_within(table, Refusal::CountOutside, 0, most, left.next)?;
     let place = usize::from(used);
     words[place] = left.value;
     words[place + 1] = size.value;
@@ -186,10 +215,10 @@ pub fn read_header(table: &[u8]) -> Result<Read<Shape>, Refusal>
     ensures reads { header_says result ≡ header table.now }
     ensures inside { HeaderInside result }
 {
-    let n = read_field(table, Refusal::CountOutside, 1, 128, 0)?;
-    let t = read_field(table, Refusal::CountOutside, 0, 4089, n.next)?;
-    let start = read_field(table, Refusal::SymbolOutside, 0, n.value - 1, t.next)?;
-    let p = read_field(table, Refusal::CountOutside, 0, 512, start.next)?;
+    let n = read_within(table, Refusal::CountOutside, 1, 128, 0)?;
+    let t = read_within(table, Refusal::CountOutside, 0, 4089, n.next)?;
+    let start = read_within(table, Refusal::SymbolOutside, 0, n.value - 1, t.next)?;
+    let p = read_within(table, Refusal::CountOutside, 0, 512, start.next)?;
     let shape = Shape {
         n: n.value,
         t: t.value,

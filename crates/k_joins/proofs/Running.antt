@@ -25,7 +25,7 @@ use Rattle.k_tuples.proofs.Rising.{both, rising-add_all, length-add_all, add_all
 use Rattle.k_tuples.proofs.Words.{words-room, length-decode, rest-member, set-some, set-within, decode-encode, length-encode, encode-is-set, encode-none, zeros-set}
 use Rattle.k_tuples.proofs.Inserting.{grown-full, grew-idle, gap-encode}
 use Rattle.k_tuples.proofs.Filling.{Way, Filling, grown-fits, grew-over, grew-length, grew-decode, grew-number, grew-set}
-use Rattle.k_joins.specs.Parts.{between, cut_of, on_at, CutAdded, KeptStep, cuts_of, keep_of, keeps_of, follows_of, run_of, meet_of, meets_of, left_of, lefts_of, Follows, AllFollow, AllPairs, Coded, Blank, RunPart, ChunkEnd}
+use Rattle.k_joins.specs.Parts.{between, cut_of, on_at, CutAdded, KeptStep, cuts_of, keep_of, keeps_of, follows_of, run_of, meet_of, meets_of, left_of, lefts_of, Follows, AllFollow, AllPairs, Coded, Blank, RunPart, Gathered, ChunkEnd}
 use Rattle.k_joins.proofs.Adding.{add_all-most}
 
 -- ---- parts of a set
@@ -468,6 +468,10 @@ module _ {W : Way} {src ws : List ℕ} {j e t : ℕ} (g : Gathering W src j e t 
         from = omega arith;
         to = omega arith;
       }
+
+  -- what has been gathered is a set
+  pub gather-end : e ≤ t → Gathered (W.all (between j e src)) ws
+  gather-end h = let s : t ≡ e = omega (arith, g.to) in record { is_set = g.is_set; as_long = g.as_long; members = g.members ∙ ap (λ (u : ℕ). add_all (W.all (between j u src)) []) s }
 
 pub one-cut : (r : ℕ) (y : Terminals) → length (cut_of r y) ≤ 1
 one-cut r y = by (eps_in (reads y))

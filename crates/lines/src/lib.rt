@@ -16,10 +16,15 @@ pub use needed::put_needed;
 pub use positions::number;
 pub use sets::Slots;
 
+// The digit of half a byte.
+fn digit(half: u8) -> u8 {
+    b"0123456789abcdef"[usize::from(half % 16)]
+}
+
 // Bytes as hexadecimal pairs, and the line's end.
 pub fn put_pairs(out: &mut impl Write, bytes: &[u8]) -> io::Result<()> {
-    for b in bytes {
-        write!(out, "{b:02x}")?;
+    for &b in bytes {
+        out.write_all(&[digit(b / 16), digit(b)])?;
     }
     writeln!(out)
 }

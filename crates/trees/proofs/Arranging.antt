@@ -19,7 +19,7 @@ use Rattle.std.specs.declared.cmp.Ordering.{Ordering}
 use borrow.Author.Tests.{eqb-true, eq-eqb, lt-ltb, le-ltb, ltb-true, ltb-false}
 use lib.Dec.{eqb, ltb}
 use lib.ListN.{length, get_or, take, drop, set, length-set, length-append, length-drop, take-append-drop, drop_of_length-le, get_or-append}
-use lib.Seq.{length-take-le, take_all, drop-cons, take-suc-set, take_at, drop_at}
+use lib.Seq.{length-take-le, take_all, take-suc, drop-cons, take-suc-set, take_at, drop_at}
 use Rattle.cfg.specs.Grammar.{Word}
 use Rattle.k_tuples.specs.Sets.{◌∈◌}
 use Rattle.decision_theory.proofs.Lists.{at_place, place_of}
@@ -82,6 +82,33 @@ module _ (v w : Word) where
 pub compare-end : (ws : List ℕ) (n i j e : ℕ) → Listed ws n → i < n → Comparing (word_at ws i) (word_at ws j) e → 10 ≤ e → true ≡ not_after (word_at ws i) (word_at ws j)
 unfolding not_after
 compare-end ws n i j e listed l c h = let s = word-short ws n i listed l in ap (λ (x : Word). not_after x (drop e (word_at ws j))) (sym (past (word_at ws i) e (omega arith))) ∙ c.rest
+
+-- ---- a copy
+
+pub record Copying (from to₀ to : List ℕ) (i : ℕ) : Type 0 where
+  pub same : length to ≡ length to₀
+  pub room : length from ≤ length to
+  pub below : i ≤ length from
+  pub front : take i to ≡ take i from
+
+module _ (from to₀ : List ℕ) where
+  pub copy_start : length from ≤ length to₀ → Copying from to₀ to₀ 0
+  copy_start e = record { same = refl; room = e; below = omega arith; front = refl }
+
+  pub copy_more : (to : List ℕ) (i : ℕ) → Copying from to₀ to i → i < length from → Copying from to₀ (set to i (get_or from i 0)) (i + 1)
+  copy_more to i c h =
+      let e = c.room in record {
+        same = length-set to i (get_or from i 0) ∙ c.same;
+        room = rw length-set c.room;
+        below = omega arith;
+        front = rw add-one (take-suc-set to i (get_or from i 0) (omega arith) ∙ ap (λ (l : List ℕ). l ++ get_or from i 0 ∷ []) c.front ∙ sym (take-suc from i 0 h));
+      }
+
+  pub copy-end : (to : List ℕ) (i : ℕ) → Copying from to₀ to i → length from ≤ i → take (length from) to ≡ from
+  copy-end to i c h =
+      let b = c.below in
+      let e : i ≡ length from = omega arith in
+      ap (λ (k : ℕ). take k to) (sym e) ∙ c.front ∙ take_all i from h
 
 -- ---- numbers from 0 on
 
@@ -257,19 +284,15 @@ module _ (l : List ℕ) (m : ℕ) where
 
 -- ---- a copy of the list as the two parts
 
-module _ (order copy rest : List ℕ) (same : copy ≡ order) where
-  -- The copy stands before the rest.
-  pub copied_is : take (length order) (copy ++ rest) ≡ order
-  copied_is = rw same (take_at order rest (length order) refl)
+module _ (order spare : List ℕ) (copied : take (length order) spare ≡ order) where
+  pub copied-inside : (n : ℕ) → Inside n order → Inside n (take (length order) spare)
+  copied-inside n h = rw copied h
 
-  pub copied-inside : (n : ℕ) → Inside n order → Inside n (take (length order) (copy ++ rest))
-  copied-inside n h = rw copied_is h
+  pub copied-size : length order ≡ length (take (length order) spare)
+  copied-size = sym (ap length copied)
 
-  pub copied-size : length order ≡ length (take (length order) (copy ++ rest))
-  copied-size = sym (ap length copied_is)
-
-  pub copied-merged : (ws r : List ℕ) (m : ℕ) → r ≡ merged ws (take m (take (length order) (copy ++ rest))) (drop m (take (length order) (copy ++ rest))) → r ≡ merged ws (take m order) (drop m order)
-  copied-merged ws r m e = e ∙ ap (λ (l : List ℕ). merged ws (take m l) (drop m l)) copied_is
+  pub copied-merged : (ws r : List ℕ) (m : ℕ) → r ≡ merged ws (take m (take (length order) spare)) (drop m (take (length order) spare)) → r ≡ merged ws (take m order) (drop m order)
+  copied-merged ws r m e = e ∙ ap (λ (l : List ℕ). merged ws (take m l) (drop m l)) copied
 
 -- ---- sorting
 

@@ -54,6 +54,17 @@ fn merge(list: &[u64], n: usize, left: &[u16], right: &[u16], both: &mut [u16])
     }
 }
 
+// A copy of a list, at the front.
+// Kept: no `copy_from_slice`, for which the archive for C would need `memmove` from outside.
+fn copy(from: &[u16], to: &mut [u16])
+    requires { length from.now ≤ length to.old }
+    ensures { take (length from.now) to.new ≡ from.now }
+{
+    for i in 0..from.len() {
+        to[i] = from[i];
+    }
+}
+
 // Two parts of a list as one.
 fn merge_parts(list: &[u64], n: usize, parts: &[u16], mid: usize, both: &mut [u16])
     requires { Listed list.now n × (Inside n parts.now × ((mid ≤ length parts.now) × (length both.old ≡ length parts.now))) }
@@ -68,7 +79,7 @@ fn merge_in_place(list: &[u64], n: usize, order: &mut [u16], spare: &mut [u16], 
     ensures { order.new ≡ merged list.now (take mid order.old) (drop mid order.old) }
 {
     let size = order.len();
-    spare[..size].copy_from_slice(order);
+    copy(order, spare);
     merge_parts(list, n, &spare[..size], mid, order);
 }
 

@@ -2,7 +2,7 @@
 use mathlib.Core.Path.{◌≡◌, sym, ◌∙◌, subst}
 use Rattle.abnf_names.specs.Noted.{part_says}
 use Rattle.abnf_names.specs.Parts.{Inside, nonterminal_part}
-use Rattle.abnf_names.proofs.PartLaws.{none_inside, refused-nonterminal, whole-nonterminal, nonterminal-in-text, names-few}
+use Rattle.abnf_names.proofs.PartLaws.{none_inside, refused-nonterminal, whole-nonterminal, nonterminal-in-text, names-few, names-inside}
 use Rattle.abnf_names.proofs.nonterminal_part.Goals as goal
 
 pub returns-then-is_err-clause-says : goal.returns-then-is_err-clause-says
@@ -12,7 +12,7 @@ pub returns-then-is_err-clause-inside : goal.returns-then-is_err-clause-inside
 returns-then-is_err-clause-inside c = search none_inside
 
 pub nonterminal_in-requires : goal.nonterminal_in-requires
-nonterminal_in-requires c = search names-few
+nonterminal_in-requires c = (search names-few, search names-inside)
 
 pub returns-clause-says : goal.returns-clause-says
 returns-clause-says c =

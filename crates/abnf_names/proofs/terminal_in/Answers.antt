@@ -5,8 +5,8 @@ use Rattle.abnf_names.proofs.terminal_in.Goals as goal
 pub returns-then-number-lt5 : goal.returns-then-number-lt5
 returns-then-number-lt5 c = search low-number
 
-pub returns-then-x-notes : goal.returns-then-x-notes
-returns-then-x-notes c = search by-literal
+pub returns-then-x-c : goal.returns-then-x-c
+returns-then-x-c c = search by-literal
 
 pub returns : goal.returns
 returns c = search high-number

@@ -2,7 +2,7 @@
 use mathlib.Core.Path.{◌≡◌, sym, ◌∙◌, subst}
 use Rattle.abnf_names.specs.Noted.{part_says}
 use Rattle.abnf_names.specs.Parts.{Inside, terminal_part}
-use Rattle.abnf_names.proofs.PartLaws.{none_inside, refused-terminal, whole-terminal, terminal-in-text, literals-few}
+use Rattle.abnf_names.proofs.PartLaws.{none_inside, refused-terminal, whole-terminal, terminal-in-text, literals-inside}
 use Rattle.abnf_names.proofs.terminal_part.Goals as goal
 
 pub returns-then-is_err-clause-says : goal.returns-then-is_err-clause-says
@@ -12,7 +12,7 @@ pub returns-then-is_err-clause-inside : goal.returns-then-is_err-clause-inside
 returns-then-is_err-clause-inside c = search none_inside
 
 pub terminal_in-requires : goal.terminal_in-requires
-terminal_in-requires c = search literals-few
+terminal_in-requires c = search literals-inside
 
 pub returns-clause-says : goal.returns-clause-says
 returns-clause-says c =

@@ -1,10 +1,10 @@
 -- `machine::scan` meets its contract: what is left of the text gives the whole. Assumes nothing.
-use Rattle.abnf_rules.proofs.MachineLaws.{scans-start, scans-long, scans-refused, scans-next, scans-end}
+use Rattle.abnf_rules.proofs.MachineLaws.{none-noted, scans-start, scans-long, scans-refused, scans-next, scans-end}
 use mathlib.Core.Path.{refl}
 use Rattle.abnf_rules.proofs.machine.scan.Goals as goal
 
 pub loop-i-init : goal.loop-i-init
-loop-i-init c = search scans-start
+loop-i-init c = scans-start _ _ (none-noted c.default-notes.ensures)
 
 pub returns-then-at-ge32768-clause-says : goal.returns-then-at-ge32768-clause-says
 returns-then-at-ge32768-clause-says c = search scans-long
